@@ -1,0 +1,190 @@
+use super::{SCRIPT_LIMIT, chariots, plain_run};
+use cz_base::{MemSink, MemSource, OpenGate, Seq, Word};
+use std::alloc::Global;
+use std::process::Abort;
+use std::test::Fail;
+
+const NO_SESSION: &[u8] = b"chariots 1\ndatacentres 1\nround 1\nsteps\nend";
+
+const ONE_APPEND: &[u8] = b"chariots 1\ndatacentres 1\nround 1\nsession A\nappend =hi\nsteps\nend\n";
+
+const ONE_GET: &[u8] = b"chariots 1\ndatacentres 1\nround 1\nsession A\nget x\nsteps\nend\n";
+
+// A script, the words and which calls fail, and what the program then ends with and writes.
+struct Case {
+    word: &'static str,
+    script: &'static [u8],
+    read_fails: u64,
+    write_fails: u64,
+    status: u8,
+    written: &'static [u8],
+}
+
+const CASES: [Case; 7] = [
+    Case {
+        word: "replay",
+        script: NO_SESSION,
+        read_fails: 0,
+        write_fails: 0,
+        status: 0,
+        written: b"log A 0\nreplies\nend\n",
+    },
+    Case {
+        word: "replay",
+        script: ONE_APPEND,
+        read_fails: 0,
+        write_fails: 0,
+        status: 0,
+        written: b"log A 1\n1 A:1 append 0 1 0 =hi\nreplies\n0 1 written 1 A:1\nend\n",
+    },
+    Case {
+        word: "replay",
+        script: ONE_GET,
+        read_fails: 0,
+        write_fails: 0,
+        status: 3,
+        written: b"refused: not built\n",
+    },
+    Case {
+        word: "replay",
+        script: NO_SESSION,
+        read_fails: 0,
+        write_fails: 2,
+        status: 5,
+        written: b"log A 0\nre",
+    },
+    Case {
+        word: "replay",
+        script: NO_SESSION,
+        read_fails: 1,
+        write_fails: 0,
+        status: 4,
+        written: b"refused: read fault\n",
+    },
+    Case {
+        word: "fly",
+        script: NO_SESSION,
+        read_fails: 0,
+        write_fails: 0,
+        status: 2,
+        written: b"refused: words\n",
+    },
+    Case {
+        word: "fly",
+        script: NO_SESSION,
+        read_fails: 0,
+        write_fails: 1,
+        status: 2,
+        written: b"",
+    },
+];
+
+fn ends(rt: &impl Abort, alloc: Global, case: &Case) -> Result<(), Fail> {
+    let mut read_fails = Seq::new(alloc);
+    read_fails.push(case.read_fails)?;
+    let mut write_fails = Seq::new(alloc);
+    write_fails.push(case.write_fails)?;
+    let script = Vec::from_slice(alloc, case.script)?;
+    let mut source = MemSource::new(script, 7, read_fails);
+    let mut sink = MemSink::new(alloc, 10, write_fails);
+    let words = vec![in alloc; Word::new(alloc, case.word)?]?;
+    let done = plain_run(alloc, words.as_slice(), &mut source, &mut sink);
+    assert_eq!(rt; done.status, case.status);
+    assert_eq!(rt; sink.written(), case.written);
+    Ok(())
+}
+
+#[test]
+fn ends_as_it_is_asked(rt: HostRuntime) -> Result<(), Fail> {
+    for case in &CASES {
+        ends(&rt, rt.alloc(), case)?;
+    }
+    Ok(())
+}
+
+#[test]
+fn the_top_call_replays(rt: HostRuntime) -> Result<(), Fail> {
+    let alloc = rt.alloc();
+    let mut source = MemSource::new(Vec::from_slice(alloc, ONE_APPEND)?, 64, Seq::new(alloc));
+    let mut sink = MemSink::new(alloc, 64, Seq::new(alloc));
+    let words = vec![in alloc; Word::new(alloc, "replay")?]?;
+    let done = chariots(
+        &rt,
+        alloc,
+        words.as_slice(),
+        &mut source,
+        &mut sink,
+        &OpenGate,
+    );
+    assert_eq!(rt; done.status, 0);
+    Ok(())
+}
+
+const ONE_APPEND_REPORT: &[u8] =
+    b"log A 1\n1 A:1 append 0 1 0 =hi\nreplies\n0 1 written 1 A:1\nend\n";
+
+// Replays the script with one append, one byte in each call, where these calls fail.
+fn bytewise(
+    rt: &impl Abort,
+    alloc: Global,
+    read_fails: u64,
+    write_fails: u64,
+    status: u8,
+    written: &[u8],
+) -> Result<(), Fail> {
+    let mut reads = Seq::new(alloc);
+    reads.push(read_fails)?;
+    let mut writes = Seq::new(alloc);
+    writes.push(write_fails)?;
+    let mut source = MemSource::new(Vec::from_slice(alloc, ONE_APPEND)?, 1, reads);
+    let mut sink = MemSink::new(alloc, 1, writes);
+    let words = vec![in alloc; Word::new(alloc, "replay")?]?;
+    let done = plain_run(alloc, words.as_slice(), &mut source, &mut sink);
+    assert_eq!(rt; done.status, status);
+    assert_eq!(rt; sink.written(), written);
+    Ok(())
+}
+
+#[test]
+fn each_read_fails_in_turn(rt: HostRuntime) -> Result<(), Fail> {
+    for call in 1..=ONE_APPEND.len() as u64 + 1 {
+        bytewise(&rt, rt.alloc(), call, 0, 4, b"refused: read fault\n")?;
+    }
+    bytewise(
+        &rt,
+        rt.alloc(),
+        ONE_APPEND.len() as u64 + 2,
+        0,
+        0,
+        ONE_APPEND_REPORT,
+    )
+}
+
+#[test]
+fn each_write_fails_in_turn(rt: HostRuntime) -> Result<(), Fail> {
+    for before in 0..ONE_APPEND_REPORT.len() {
+        let call = before as u64 + 1;
+        bytewise(&rt, rt.alloc(), 0, call, 5, &ONE_APPEND_REPORT[..before])?;
+    }
+    bytewise(
+        &rt,
+        rt.alloc(),
+        0,
+        ONE_APPEND_REPORT.len() as u64 + 1,
+        0,
+        ONE_APPEND_REPORT,
+    )
+}
+
+#[test]
+fn one_byte_more_than_the_limit_is_too_long(rt: HostRuntime) -> Result<(), Fail> {
+    let alloc = rt.alloc();
+    let bytes = vec![in alloc; b'#'; SCRIPT_LIMIT + 1]?;
+    let mut source = MemSource::new(bytes, usize::MAX, Seq::new(alloc));
+    let mut sink = MemSink::new(alloc, 64, Seq::new(alloc));
+    let words = vec![in alloc; Word::new(alloc, "replay")?]?;
+    let done = plain_run(alloc, words.as_slice(), &mut source, &mut sink);
+    assert_eq!(rt; done.status, 3);
+    assert_eq!(rt; sink.written(), b"refused: too long\n".as_slice());
+    Ok(())
+}
