@@ -1,0 +1,2 @@
+pub mod Maintainers
+pub mod Marks

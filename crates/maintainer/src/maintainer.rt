@@ -1,0 +1,129 @@
+ghost use Rattle.std.specs.Prelude.{◌≡◌, ◌⊎◌, ℕ, ◌^◌, ◌<◌, ◌≤◌, ◌↔◌, Contains, OnErr, OnOk};
+ghost use Rattle.causal_deps.specs.declared.answers.Shown.{Shown};
+ghost use Rattle.flstore_rounds.specs.Epochs.{IsPrefix, IsSettled};
+ghost use Rattle.maintainer.specs.Maintainers.{AreKept, IsFilled, IsMark, IsOwn, empty, learned, mark_of, placed, shown_value, value_at};
+
+use crate::Slot;
+use crate::slot::{mark_past, slots_below, value_of};
+use causal_deps::Shown;
+use cz_base::{Lid, NoMemory};
+use flstore_rounds::Epochs;
+use std::alloc::Global;
+use std::marker::Model;
+
+/// The values at the positions that one member owns. Contracts see it as a record of its number,
+/// its epoch list, its entries by rising position, the positions of which the value was let go,
+/// and its spare places.
+#[derive(Debug, Drop)]
+pub struct Maintainer<T> {
+    number: u32,
+    epochs: Epochs,
+    slots: Vec<Slot<T>>,
+    mark: Lid,
+}
+
+impl<T> Model for Maintainer<T> {
+    ghost use Rattle.maintainer.specs.Maintainers.{MaintainerState, state_code};
+
+    ghost Value = { MaintainerState T };
+
+    ghost coded = { state_code T.code };
+
+    ghost use Rattle.std.specs.Prelude.{◌-◌, [], vec_len};
+    ghost use Rattle.std.specs.Vec.{vec_capacity};
+    ghost use Rattle.maintainer.specs.Maintainers.{IsSound};
+
+    ghost view = { λ m. record { number = m.number; epochs = m.epochs; entries = m.slots.items; gone = []; spare = vec_capacity m.slots - vec_len m.slots } };
+
+    ghost invariant = { λ m. IsSound m.number m.epochs m.slots.items m.mark };
+}
+
+impl<T> Maintainer<T> {
+    /// No position is filled, and no place is spare.
+    pub fn new(alloc: Global, number: u32, epochs: Epochs) -> Self
+        ensures { result ≡ empty number epochs }
+    {
+        Maintainer {
+            number,
+            epochs,
+            slots: Vec::new(alloc),
+            mark: 1,
+        }
+    }
+
+    /// The number of the member.
+    pub fn number(&self) -> u32
+        ensures { result ≡ self.now.number }
+    {
+        self.number
+    }
+
+    /// Its epoch list, by which each position that it has filled is its own.
+    pub fn epochs(&self) -> &Epochs
+        ensures value { result.now ≡ self.now.epochs }
+        ensures kept { AreKept self.now.epochs self.now.number self.now.entries }
+    {
+        &self.epochs
+    }
+
+    /// Takes the longer of the two epoch lists, of which one is the beginning of the other.
+    pub fn learn(&mut self, epochs: &Epochs) -> Result<(), NoMemory>
+        requires known { IsPrefix self.old.epochs epochs.now ⊎ IsPrefix epochs.now self.old.epochs }
+        requires settled { (p : ℕ) → IsFilled self.old p → IsSettled epochs.now self.old.epochs p }
+        ensures ok { OnOk result (self.new ≡ learned self.old epochs.now) }
+        ensures err { OnErr result (self.new ≡ self.old) }
+    {
+        self.epochs.take_longer(epochs)
+    }
+
+    /// Makes room for n more values.
+    pub fn reserve(&mut self, n: usize) -> Result<(), NoMemory>
+        ensures ok { OnOk result (n ≤ self.new.spare) }
+        ensures more { self.old.spare ≤ self.new.spare }
+        ensures rest { self.new ≡ record self.old { spare = self.new.spare } }
+        ensures err { OnErr result (self.new ≡ self.old) }
+    {
+        self.slots.reserve(n)?;
+        Ok(())
+    }
+
+    /// Puts a value at an own position that is not filled, in one spare place.
+    pub fn place(&mut self, lid: Lid, value: T)
+        requires own { IsOwn self.old lid }
+        requires small { lid < 2 ^ 48 }
+        requires vacant { ¬ IsFilled self.old lid }
+        requires room { 1 ≤ self.old.spare }
+        ensures { self.new ≡ placed self.old lid value }
+    {
+        let at = slots_below(&self.slots, lid);
+        self.slots.insert(at, Slot { lid, value }).unwrap();
+        // An owner is a member of the last epoch too, which has the most.
+        prove!(self.epochs.owner(lid) == self.number);
+        if self.epochs.next_own(self.number, self.mark) == lid {
+            self.mark = mark_past(&self.epochs, self.number, &self.slots, at);
+        }
+    }
+
+    /// What stands at an own position.
+    pub fn read(&self, lid: Lid) -> Shown<'_, T>
+        requires own { IsOwn self.now lid }
+        ensures value { shown_value result ≡ value_at lid self.now.entries }
+        ensures gone { (result ≡ Shown.Gone) ↔ Contains self.now.gone lid }
+        ensures empty { (result ≡ Shown.Empty) ↔ (¬ IsFilled self.now lid) }
+    {
+        match value_of(&self.slots, lid) {
+            Some(value) => Shown::Filled(value),
+            None => Shown::Empty,
+        }
+    }
+
+    /// The mark: one more than the greatest own position up to which every own one is filled, and
+    /// 1 where there is none.
+    pub fn filled(&self) -> Lid
+        ensures mark { IsMark self.now result }
+        ensures value { result ≡ mark_of self.now }
+        ensures within { (1 ≤ result) × (result ≤ 2 ^ 48) }
+    {
+        self.mark
+    }
+}

@@ -1,0 +1,13 @@
+pub mod Shared
+pub mod Numbers
+pub mod Composing
+pub mod Texts
+pub mod Several
+pub mod Places
+pub mod Fields
+pub mod Heads
+pub mod Records
+pub mod Starts
+pub mod Messages
+pub mod Wholes
+pub mod Pieces

@@ -1,0 +1,5 @@
+use Rattle.record_codec.proofs.Wholes.{record_only}
+use Rattle.record_codec.proofs.record.decode_record.Goals as goal
+
+pub returns-clause-only : goal.returns-clause-only
+returns-clause-only c = record_only _ _ c.whole_record.result c.requires.0 c.requires.1 c.whole_record.ensures.ok c.whole_record.ensures.refused

@@ -1,0 +1,191 @@
+ghost use Rattle.std.specs.Prelude.{◌≡◌, ◌++◌, ◌<◌, ◌≤◌, length, IfOk, IfErr, MatchResult, OnOk};
+ghost use Rattle.record_codec.specs.declared.fault.DecodeFault.TheVariants.{NoMemory as OutOfMemory};
+ghost use Rattle.causal_deps.specs.declared.record.Record.{Record as RecordValue};
+ghost use Rattle.record_codec.specs.Fields.{head_word, IsHead, IsKind, IsRecord, kind_bytes};
+ghost use Rattle.record_codec.specs.Parts.{IsWord};
+ghost use Rattle.record_codec.specs.Reading.{Fails, Took};
+ghost use Rattle.record_codec.specs.Starts.{IsRefused};
+ghost use Rattle.record_codec.specs.Wire.{counts_bytes, fewest_tags, head_bytes, kind_number, most_tags, record_bytes, FitsRecord, HasTexts, IsRecordText, SpellsRecord};
+
+use crate::DecodeFault;
+use crate::reader::{MAX_COUNT, Own, Reader};
+use crate::writer::Writer;
+use causal_deps::{Kind, Record};
+use cz_base::{DcId, NoMemory, Toid};
+use std::alloc::Global;
+
+const MAX_SESSION: u32 = 63;
+const MAX_INDEX: u32 = 16384;
+
+// What says whose record it is, and which.
+#[derive(Clone, Copy)]
+pub struct Head {
+    host: DcId,
+    toid: Toid,
+    session: u32,
+    index: u32,
+    kind: Kind,
+}
+
+/// The one spelling of a record whose numbers are in their ranges.
+pub fn encode_record(alloc: Global, rec: &Record) -> Result<Vec<u8>, NoMemory>
+    requires { FitsRecord (length rec.now.dep) rec.now }
+    ensures { IfOk result (λ bytes. SpellsRecord (length rec.now.dep) bytes.items rec.now) }
+{
+    let mut writer = Writer::new(alloc);
+    write_record(&mut writer, rec)?;
+    Ok(writer.into_bytes())
+}
+
+/// The record of so many datacentres that the bytes spell, all of them.
+///
+/// `Malformed` comes exactly where they spell none, and NoMemory where memory is refused. No more
+/// memory is taken than the bytes that are there call for, whatever lengths they announce.
+pub fn decode_record(alloc: Global, bytes: &[u8], dcs: u32) -> Result<Record, DecodeFault>
+    requires { (1 ≤ dcs) × (dcs ≤ 8) }
+    // What is decoded is spelled so.
+    ensures ok { IfOk result (λ rec. SpellsRecord dcs bytes.now rec) }
+
+    // What is spelled so is decoded.
+    ensures only { (rec : RecordValue) → SpellsRecord dcs bytes.now rec → MatchResult result (λ found. found ≡ rec) (λ fault. fault ≡ OutOfMemory) }
+
+    // Where nothing is, it is told how far the bytes begin some record.
+    ensures refused { IfErr result (IsRefused (IsRecordText dcs) bytes.now) }
+{
+    whole_record(alloc, bytes, dcs)
+}
+
+fn whole_record(alloc: Global, bytes: &[u8], dcs: u32) -> Result<Record, DecodeFault>
+    requires { (1 ≤ dcs) × (dcs ≤ 8) }
+    ensures ok { IfOk result (λ rec. SpellsRecord dcs bytes.now rec) }
+    ensures refused { IfErr result (IsRefused (IsRecordText dcs) bytes.now) }
+{
+    let mut reader = Reader::new(alloc, bytes);
+    let rec = read_record(&mut reader, dcs, 0, dcs - 1)?;
+    reader.end()?;
+    Ok(rec)
+}
+
+// Writes a record, whose names and body are what their types keep.
+pub fn write_record(writer: &mut Writer, rec: &Record) -> Result<(), NoMemory>
+    requires { FitsRecord (length rec.now.dep) rec.now }
+    ensures ok { OnOk result (writer.new ≡ writer.old ++ record_bytes (length rec.now.dep) rec.now) }
+    ensures texts { OnOk result (HasTexts rec.now) }
+{
+    write_head(writer, rec)?;
+    writer.counts(&rec.dep)?;
+    writer.names(&rec.tags)?;
+    writer.body(&rec.body)
+}
+
+fn write_head(writer: &mut Writer, rec: &Record) -> Result<(), NoMemory>
+    requires { FitsRecord (length rec.now.dep) rec.now }
+    ensures { OnOk result (writer.new ≡ writer.old ++ head_bytes (length rec.now.dep) rec.now.host rec.now.toid rec.now.session rec.now.index rec.now.kind) }
+{
+    writer.number(1, rec.dep.dcs() as u64)?;
+    writer.number(1, rec.host.number() as u64)?;
+    writer.number(8, rec.toid)?;
+    writer.number(2, rec.session as u64)?;
+    writer.number(4, rec.index as u64)?;
+    writer.number(1, kind_byte(rec.kind))
+}
+
+fn kind_byte(kind: Kind) -> u64
+    ensures value { result ≡ kind_number kind }
+    ensures small { result < 256 }
+{
+    match kind {
+        Kind::Append => 1,
+        Kind::Put => 2,
+    }
+}
+
+// Reads a record for so many datacentres whose host is in the range.
+pub fn read_record(reader: &mut Reader<'_>, dcs: u32, low: u32, high: u32) -> Result<Record, DecodeFault>
+    requires dcs { (1 ≤ dcs) × (dcs ≤ 8) }
+    requires order { low ≤ high }
+    requires hosts { high < dcs }
+    ensures ok { IfOk result (λ rec. IsRecord dcs low high rec) }
+    ensures took { IfOk result (λ rec. Took reader.old reader.new (record_bytes dcs rec)) }
+    ensures fault { IfErr result (Fails (IsWord (IsRecord dcs low high) (record_bytes dcs)) reader.old) }
+{
+    let Head {
+        host,
+        toid,
+        session,
+        index,
+        kind,
+    } = read_head(reader, dcs, low, high)?;
+    let own = Own {
+        host: host.number(),
+        count: toid - 1,
+    };
+    let dep = reader.counts(dcs, Some(own))?;
+    let tags = reader.names(fewest(kind), most(kind))?;
+    let body = reader.body()?;
+    Ok(Record {
+        host,
+        toid,
+        session,
+        index,
+        kind,
+        tags,
+        body,
+        dep,
+    })
+}
+
+fn read_head(reader: &mut Reader<'_>, dcs: u32, low: u32, high: u32) -> Result<Head, DecodeFault>
+    requires dcs { (1 ≤ dcs) × (dcs ≤ 8) }
+    requires order { low ≤ high }
+    requires hosts { high < dcs }
+    ensures ok { IfOk result (λ head. IsHead low high head) }
+    ensures took { IfOk result (λ head. Took reader.old reader.new (head_word dcs head)) }
+    ensures fault { IfErr result (Fails (IsWord (IsHead low high) (head_word dcs)) reader.old) }
+{
+    reader.small(1, dcs, dcs)?;
+    let host = reader.host(low, high)?;
+    let toid = reader.number(8, 1, MAX_COUNT)?;
+    let session = reader.small(2, 0, MAX_SESSION)?;
+    let index = reader.small(4, 1, MAX_INDEX)?;
+    let kind = read_kind(reader)?;
+    Ok(Head {
+        host,
+        toid,
+        session,
+        index,
+        kind,
+    })
+}
+
+fn read_kind(reader: &mut Reader<'_>) -> Result<Kind, DecodeFault>
+    ensures took { IfOk result (λ kind. Took reader.old reader.new (kind_bytes kind)) }
+    ensures fault { IfErr result (Fails (IsWord IsKind kind_bytes) reader.old) }
+{
+    let number = reader.small(1, 1, 2)?;
+    if number == 1 {
+        Ok(Kind::Append)
+    } else {
+        Ok(Kind::Put)
+    }
+}
+
+// The fewest tags that a record of the kind has.
+fn fewest(kind: Kind) -> u32
+    ensures { result ≡ fewest_tags kind }
+{
+    match kind {
+        Kind::Append => 0,
+        Kind::Put => 1,
+    }
+}
+
+// The most tags that a record of the kind has.
+fn most(kind: Kind) -> u32
+    ensures { result ≡ most_tags kind }
+{
+    match kind {
+        Kind::Append => 8,
+        Kind::Put => 1,
+    }
+}

@@ -1,0 +1,38 @@
+-- Lemmas on what lines say.
+use Rattle.std.proofs.Common.{◌≡◌, ◌<◌, ◌+◌, List, [], ◌∷◌, ◌++◌, length, length-append, refl, ap, sym, ◌∙◌, arith, false, nat_eq, ℕ}
+use Rattle.std.specs.Prelude.{nat_le, Ok}
+use Rattle.std.proofs.lemmas.Bool.Decides.{nat_tests}
+use Rattle.abstract_log.specs.declared.command.Command.{Command}
+use Rattle.abstract_log.specs.declared.command.Command.TheVariants.{Append}
+use Rattle.abstract_log.specs.declared.command.SessionPlan.{SessionPlan}
+use Rattle.script_text.specs.declared.progress.Progress.{Progress}
+use Rattle.script_text.specs.Reading.{body_at, names_in}
+use Rattle.script_text.specs.Meaning.{onto_last, with_command, append_line}
+
+-- a command goes to the session that stands last
+pub onto_last-last : (plans : List SessionPlan) (plan : SessionPlan) (command : Command)
+    → onto_last (plans ++ plan ∷ []) command ≡ plans ++ record { home = plan.home; commands = plan.commands ++ command ∷ [] } ∷ []
+onto_last-last [] plan command = refl
+onto_last-last (first ∷ []) plan command = refl
+onto_last-last (first ∷ next ∷ more) plan command = ap (λ plans. first ∷ plans) (onto_last-last (next ∷ more) plan command)
+
+-- a command is put where a session has begun and there is room
+pub with_command-last : (said : Progress) (command : Command) (front : List SessionPlan) (last : SessionPlan) → said.sessions ≡ front ++ last ∷ [] → said.commands < 16384
+    → with_command said command ≡ Ok (record said { sessions = front ++ record { home = last.home; commands = last.commands ++ command ∷ [] } ∷ []; commands = said.commands + 1 })
+unfolding with_command
+with_command-last said command front last is few =
+    let room : nat_le 16384 said.commands ≡ false = grind (arith, nat_tests) in
+    let begun : nat_eq (length said.sessions) 0 ≡ false = grind (arith, nat_tests, ap (λ (plans : List SessionPlan). length plans) is, length-append front (last ∷ [])) in
+    rw (room, begun) (ap (λ plans. Ok (record said { sessions = plans; commands = said.commands + 1 })) (ap (λ plans. onto_last plans command) is ∙ onto_last-last front last command))
+
+pub with_command-pushed : (said : Progress) (command : Command) (front : List SessionPlan) (plan : SessionPlan) (commands : List Command) (sessions : List SessionPlan)
+    → said.sessions ≡ front ++ plan ∷ [] → said.commands < 16384 → commands ≡ plan.commands ++ command ∷ [] → sessions ≡ front ++ record { home = plan.home; commands = commands } ∷ []
+    → with_command said command ≡ Ok (record said { sessions = sessions; commands = said.commands + 1 })
+with_command-pushed said command front plan commands sessions is few more all =
+    with_command-last said command front plan is few
+    ∙ ap (λ plans. Ok (record said { sessions = plans; commands = said.commands + 1 })) (sym (all ∙ ap (λ (cs : List Command). front ++ record { home = plan.home; commands = cs } ∷ []) more))
+
+pub append_line-read : (said : Progress) (left : List (List ℕ)) (body : List ℕ) (more tags : List (List ℕ)) → body_at left ≡ Ok (body, more) → names_in more ≡ Ok tags
+    → append_line said left ≡ with_command said (Append tags body)
+unfolding append_line
+append_line-read said left body more tags spelled named = rw (spelled, named) refl

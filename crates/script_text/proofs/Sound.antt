@@ -1,0 +1,581 @@
+-- What is said so far keeps the ranges, line after line.
+use Rattle.std.proofs.Common.{◌≡◌, ◌<◌, ◌≤◌, ◌+◌, ◌-◌, ℕ, zero, suc, List, [], ◌∷◌, ◌++◌, length, length-append, refl, ap, sym, subst, ◌∙◌, arith, Bool, true, false, cond, not, ◌&&◌, ◌||◌, nat_eq, ◌⊎◌, inl, inr, All}
+use Rattle.std.specs.Prelude.{nat_le, nat_lt, Ok, Err, Result, Option, Some, None, is_none, drop, slice_index, IfSome, IfOk}
+use Rattle.std.specs.List.{list_all, list_any, find}
+use Rattle.std.proofs.lemmas.Bool.Decides.{nat_tests}
+use Rattle.std.proofs.lemmas.List.Elements.{All-nil, All-cons, All-push, All-head, All-tail, All-get_or}
+use Rattle.cz_base.specs.Text.{IsName, IsBody, first_bad, is_name_byte, is_body_byte}
+use Rattle.abstract_log.specs.declared.command.Command.{Command}
+use Rattle.abstract_log.specs.declared.command.Command.TheVariants as command
+use Rattle.abstract_log.specs.declared.command.SessionPlan.{SessionPlan}
+use Rattle.abstract_log.specs.declared.script.Script.{Script}
+use Rattle.abstract_log.specs.declared.script.Sizes.{Sizes}
+use Rattle.abstract_log.specs.declared.script.Step.{Step}
+use Rattle.abstract_log.specs.Commands.{no_plan}
+use Rattle.script_text.specs.declared.fault.Cause.{Cause}
+use Rattle.script_text.specs.declared.fault.ScriptFault.{ScriptFault}
+use Rattle.script_text.specs.declared.keyword.Keyword.{Keyword}
+use Rattle.script_text.specs.declared.keyword.Keyword.TheVariants.{Chariots, Datacentres, Round, Stages, Session, Command as CommandLine, Steps, Turn, End}
+use Rattle.script_text.specs.declared.keyword.CommandWord.{CommandWord}
+use Rattle.script_text.specs.declared.keyword.CommandWord.TheVariants.{Append, Put, Get, Tx, Read, Last}
+use Rattle.script_text.specs.declared.section.Section.{Section}
+use Rattle.script_text.specs.declared.section.Section.TheVariants as section
+use Rattle.script_text.specs.declared.progress.Progress.{Progress}
+use Rattle.script_text.specs.declared.progress.Stages.{Stages as StagesOf}
+use Rattle.script_text.specs.Words.{is_number, number_of, is_datacentre, is_name, is_body, words, is_line_byte, is_empty_word}
+use Rattle.script_text.specs.Reading.{◌>>=◌, number_in, number_at, datacentre_at, body_in, body_at, names_in}
+use Rattle.script_text.specs.Keywords.{keyword_of, stands, is_built, least_words, most_words, is_start, is_datacentres, is_round, is_stages, is_sessions, is_steps, is_ended}
+use Rattle.script_text.specs.Meaning.{start, chariots_line, datacentres_line, round_line, sizes_at, stages_line, session_line, onto_last, with_command, append_line, read_line, command_meaning, meaning, keyword_after, words_after, is_passed_over, line_after, is_given, sizes_found, sizes_given, sizes_upto, script_said, told, script_from, script_of}
+use Rattle.script_text.specs.Fits.{IsSize, FitsSizes, FitsCommand, FitsPlan, commands_of, FitsScript}
+
+-- where a section stands
+abbrev pub rank : Section → ℕ
+rank section.Start = 0
+rank section.Datacentres = 1
+rank section.Round = 2
+rank section.Stages = 3
+rank section.Sessions = 4
+rank section.Steps = 5
+rank section.Ended = 6
+
+rank-start : (here : Section) → is_start here ≡ true → rank here ≡ 0
+rank-start section.Start h = refl
+rank-start section.Datacentres h = cc
+rank-start section.Round h = cc
+rank-start section.Stages h = cc
+rank-start section.Sessions h = cc
+rank-start section.Steps h = cc
+rank-start section.Ended h = cc
+
+rank-datacentres : (here : Section) → is_datacentres here ≡ true → rank here ≡ 1
+rank-datacentres section.Start h = cc
+rank-datacentres section.Datacentres h = refl
+rank-datacentres section.Round h = cc
+rank-datacentres section.Stages h = cc
+rank-datacentres section.Sessions h = cc
+rank-datacentres section.Steps h = cc
+rank-datacentres section.Ended h = cc
+
+rank-round : (here : Section) → is_round here ≡ true → rank here ≡ 2
+rank-round section.Start h = cc
+rank-round section.Datacentres h = cc
+rank-round section.Round h = refl
+rank-round section.Stages h = cc
+rank-round section.Sessions h = cc
+rank-round section.Steps h = cc
+rank-round section.Ended h = cc
+
+rank-stages : (here : Section) → is_stages here ≡ true → rank here ≡ 3
+rank-stages section.Start h = cc
+rank-stages section.Datacentres h = cc
+rank-stages section.Round h = cc
+rank-stages section.Stages h = refl
+rank-stages section.Sessions h = cc
+rank-stages section.Steps h = cc
+rank-stages section.Ended h = cc
+
+-- `stages` lines are over from the first session on
+rank-either : (here : Section) → (is_stages here || is_sessions here) ≡ true → 3 ≤ rank here
+rank-either section.Start h = cc
+rank-either section.Datacentres h = cc
+rank-either section.Round h = cc
+rank-either section.Stages h = omega arith
+rank-either section.Sessions h = omega arith
+rank-either section.Steps h = cc
+rank-either section.Ended h = cc
+
+rank-sessions : (here : Section) → is_sessions here ≡ true → rank here ≡ 4
+rank-sessions section.Start h = cc
+rank-sessions section.Datacentres h = cc
+rank-sessions section.Round h = cc
+rank-sessions section.Stages h = cc
+rank-sessions section.Sessions h = refl
+rank-sessions section.Steps h = cc
+rank-sessions section.Ended h = cc
+
+rank-steps : (here : Section) → is_steps here ≡ true → rank here ≡ 5
+rank-steps section.Start h = cc
+rank-steps section.Datacentres h = cc
+rank-steps section.Round h = cc
+rank-steps section.Stages h = cc
+rank-steps section.Sessions h = cc
+rank-steps section.Steps h = refl
+rank-steps section.Ended h = cc
+
+rank-ended : (here : Section) → is_ended here ≡ true → rank here ≡ 6
+rank-ended section.Start h = cc
+rank-ended section.Datacentres h = cc
+rank-ended section.Round h = cc
+rank-ended section.Stages h = cc
+rank-ended section.Sessions h = cc
+rank-ended section.Steps h = cc
+rank-ended section.Ended h = refl
+
+-- a line or a word that is read
+abbrev okay : {A : Type 0} → A → Result A Cause
+okay x = Ok x
+
+okay-same : {A : Type 0} (x y : A) → okay x ≡ okay y → x ≡ y
+okay-same x y same = cc
+
+-- a step of reading that went on
+bind_ok : {A B E : Type 0} (r : Result A E) (f : A → Result B E) (y : B) → (r >>= f) ≡ Ok y → (x : A) × ((r ≡ Ok x) × (f x ≡ Ok y))
+bind_ok (Ok x) f y same = (x, (refl, same))
+bind_ok (Err e) f y same = cc
+
+-- a test that let it go on
+guard_ok : {A E : Type 0} (b : Bool) (e : E) (r : Result A E) (y : A) → cond b (Err e) r ≡ Ok y → (b ≡ false) × (r ≡ Ok y)
+guard_ok true e r y same = cc
+guard_ok false e r y same = (refl, same)
+
+pass_ok : {A E : Type 0} (b : Bool) (e : E) (r : Result A E) (y : A) → cond b r (Err e) ≡ Ok y → (b ≡ true) × (r ≡ Ok y)
+pass_ok true e r y same = (refl, same)
+pass_ok false e r y same = cc
+
+and_both : (a b : Bool) → (a && b) ≡ true → (a ≡ true) × (b ≡ true)
+and_both true b same = (refl, same)
+and_both false b same = cc
+
+chosen : {A : Type 0} (b : Bool) (x y z : A) → cond b x y ≡ z → (x ≡ z) ⊎ (y ≡ z)
+chosen true x y z same = inl same
+chosen false x y z same = inr same
+
+told_ok : (number : ℕ) (r : Result Progress Cause) (y : Progress) → told number r ≡ Ok y → r ≡ Ok y
+told_ok number (Ok x) y same = cc
+told_ok number (Err e) y same = cc
+
+not_false : (b : Bool) → not b ≡ false → b ≡ true
+not_false true h = refl
+not_false false h = cc
+
+or_false : (a b : Bool) → (a || b) ≡ false → (a ≡ false) × (b ≡ false)
+or_false true b same = cc
+or_false false b same = (refl, same)
+
+none_is : (o : Option ℕ) → is_none o ≡ true → o ≡ None
+none_is None h = refl
+none_is (Some n) h = cc
+
+-- What each kind of word keeps.
+
+pub record TakesNumber (least most : ℕ) (left : List (List ℕ)) (x : ℕ × List (List ℕ)) : Type 0 where
+  pub least_is : least ≤ x.0
+  pub most_is : x.0 ≤ most
+  pub shorter : length left ≡ length x.1 + 1
+
+number_takes : (least most : ℕ) (left : List (List ℕ)) (x : ℕ × List (List ℕ)) → number_at least most left ≡ Ok x → TakesNumber least most left x
+unfolding number_at
+number_takes least most [] x same = cc
+number_takes least most (word ∷ more) x same =
+    let bound = bind_ok (number_in least most word) (λ n. Ok (n, more)) x same in
+    let form = pass_ok (is_number word) _ _ bound.0 bound.1.0 in
+    let range = pass_ok (nat_le least (number_of word) && nat_le (number_of word) most) _ _ bound.0 form.1 in
+    let both = and_both (nat_le least (number_of word)) (nat_le (number_of word) most) range.0 in
+    let value : number_of word ≡ bound.0 = cc (range.1) in
+    let pair : (bound.0, more) ≡ x = cc (bound.1.1) in
+    let first : bound.0 ≡ x.0 = ap (λ (p : ℕ × List (List ℕ)). p.0) pair in
+    let second : more ≡ x.1 = ap (λ (p : ℕ × List (List ℕ)). p.1) pair in
+    let low : least ≤ number_of word = grind (arith, nat_tests, both.0) in
+    let high : number_of word ≤ most = grind (arith, nat_tests, both.1) in
+    record {
+      least_is = omega (arith, low, value, first);
+      most_is = omega (arith, high, value, first);
+      shorter = omega (arith, ap (λ (ws : List (List ℕ)). length ws) second);
+    }
+
+datacentre_below : (dcs : ℕ) (word : List ℕ) → is_datacentre dcs word ≡ true → slice_index word 0 - 65 < dcs
+datacentre_below dcs [] h = cc
+datacentre_below dcs (letter ∷ []) h =
+    let both = and_both (nat_le 65 letter && nat_lt letter (65 + dcs)) (nat_lt letter 73) h in
+    let first = and_both (nat_le 65 letter) (nat_lt letter (65 + dcs)) both.0 in
+    grind (arith, nat_tests, first.0, first.1)
+datacentre_below dcs (letter ∷ next ∷ more) h = cc
+
+datacentre_takes : (dcs : ℕ) (left : List (List ℕ)) (x : ℕ × List (List ℕ)) → datacentre_at dcs left ≡ Ok x → x.0 < dcs
+unfolding datacentre_at
+datacentre_takes dcs [] x same = cc
+datacentre_takes dcs (word ∷ more) x same =
+    let form = pass_ok (is_datacentre dcs word) _ _ x same in
+    let pair : (slice_index word 0 - 65, more) ≡ x = cc (form.1) in
+    let first : slice_index word 0 - 65 ≡ x.0 = ap (λ (p : ℕ × List (List ℕ)). p.0) pair in
+    omega (arith, datacentre_below dcs word form.0, first)
+
+body_is : (word : List ℕ) → is_body word ≡ true → IsBody (drop 1 word)
+body_is [] h = cc
+body_is (sign ∷ bytes) h =
+    let both = and_both ((nat_eq sign 61) && nat_le (length bytes) 1024) (is_none (first_bad is_body_byte bytes)) h in
+    let short = and_both (nat_eq sign 61) (nat_le (length bytes) 1024) both.0 in
+    record { short = grind (arith, nat_tests, short.1); allowed = none_is (first_bad is_body_byte bytes) both.1 }
+
+pub record TakesBody (left : List (List ℕ)) (x : List ℕ × List (List ℕ)) : Type 0 where
+  pub body : IsBody x.0
+  pub shorter : length left ≡ length x.1 + 1
+
+body_takes : (left : List (List ℕ)) (x : List ℕ × List (List ℕ)) → body_at left ≡ Ok x → TakesBody left x
+unfolding body_at
+body_takes [] x same = cc
+body_takes (word ∷ more) x same =
+    let bound = bind_ok (body_in word) (λ body. Ok (body, more)) x same in
+    let form = pass_ok (is_body word) _ _ bound.0 bound.1.0 in
+    let value : drop 1 word ≡ bound.0 = cc (form.1) in
+    let pair : (bound.0, more) ≡ x = cc (bound.1.1) in
+    let first : bound.0 ≡ x.0 = ap (λ (p : List ℕ × List (List ℕ)). p.0) pair in
+    let second : more ≡ x.1 = ap (λ (p : List ℕ × List (List ℕ)). p.1) pair in
+    record {
+      body = subst (λ (bytes : List ℕ). IsBody bytes) (value ∙ first) (body_is word form.0);
+      shorter = omega (arith, ap (λ (ws : List (List ℕ)). length ws) second);
+    }
+
+name_is : (word : List ℕ) → is_name word ≡ true → IsName word
+name_is word h =
+    let both = and_both (nat_le 1 (length word) && nat_le (length word) 64) (is_none (first_bad is_name_byte word)) h in
+    let bounds = and_both (nat_le 1 (length word)) (nat_le (length word) 64) both.0 in
+    record { not_empty = grind (arith, nat_tests, bounds.0); short = grind (arith, nat_tests, bounds.1); allowed = none_is (first_bad is_name_byte word) both.1 }
+
+names_are : (left : List (List ℕ)) → list_all is_name left ≡ true → All IsName left
+names_are [] h = All-nil IsName
+names_are (word ∷ more) h =
+    let both = and_both (is_name word) (list_all is_name more) h in
+    All-cons IsName word more (name_is word both.0) (names_are more both.1)
+
+names_take : (left tags : List (List ℕ)) → names_in left ≡ Ok tags → (left ≡ tags) × All IsName left
+unfolding names_in
+names_take left tags same =
+    let form = pass_ok (list_all is_name left) _ _ tags same in
+    (cc (form.1), names_are left form.0)
+
+one_is_size : IsSize 1
+one_is_size = (omega arith, omega arith)
+
+is_size : (n : ℕ) → 1 ≤ n → n ≤ 16 → IsSize n
+is_size n low high = (low, high)
+
+sizes_take : (left : List (List ℕ)) (x : Sizes × List (List ℕ)) → sizes_at left ≡ Ok x → FitsSizes x.0
+unfolding sizes_at
+sizes_take left x same =
+    let one = bind_ok (number_at 1 1 left) _ x same in
+    let two = bind_ok (number_at 1 1 one.0.1) _ x one.1.1 in
+    let three = bind_ok (number_at 1 1 two.0.1) _ x two.1.1 in
+    let four = bind_ok (number_at 1 16 three.0.1) _ x three.1.1 in
+    let five = bind_ok (number_at 1 1 four.0.1) _ x four.1.1 in
+    let six = bind_ok (number_at 1 1 five.0.1) _ x five.1.1 in
+    let seven = bind_ok (number_at 1 1 six.0.1) _ x six.1.1 in
+    let a = number_takes 1 1 left one.0 one.1.0 in
+    let b = number_takes 1 1 one.0.1 two.0 two.1.0 in
+    let c = number_takes 1 1 two.0.1 three.0 three.1.0 in
+    let d = number_takes 1 16 three.0.1 four.0 four.1.0 in
+    let e = number_takes 1 1 four.0.1 five.0 five.1.0 in
+    let f = number_takes 1 1 five.0.1 six.0 six.1.0 in
+    let g = number_takes 1 1 six.0.1 seven.0 seven.1.0 in
+    let made : Sizes = record { batchers = one.0.0; filters = two.0.0; queues = three.0.0; maintainers = four.0.0; indexers = five.0.0; senders = six.0.0; receivers = seven.0.0 } in
+    let pair : (made, seven.0.1) ≡ x = okay-same (made, seven.0.1) x seven.1.1 in
+    let fits : FitsSizes made = record {
+      batchers = is_size one.0.0 a.least_is (omega (arith, a.most_is));
+      filters = is_size two.0.0 b.least_is (omega (arith, b.most_is));
+      queues = is_size three.0.0 c.least_is (omega (arith, c.most_is));
+      maintainers = is_size four.0.0 d.least_is d.most_is;
+      indexers = is_size five.0.0 e.least_is (omega (arith, e.most_is));
+      senders = is_size six.0.0 f.least_is (omega (arith, f.most_is));
+      receivers = is_size seven.0.0 g.least_is (omega (arith, g.most_is));
+    } in
+    subst (λ (p : Sizes × List (List ℕ)). FitsSizes p.0) pair fits
+
+-- What has been said keeps the ranges.
+
+pub record IsSound (said : Progress) : Type 0 where
+  pub dcs : 2 ≤ rank said.section → (1 ≤ said.dcs) × (said.dcs ≤ 8)
+  pub round : 3 ≤ rank said.section → (1 ≤ said.round) × (said.round ≤ 1024)
+  pub begun : rank said.section ≤ 3 → said.sessions ≡ []
+  pub stages : All (λ (given : StagesOf). FitsSizes given.sizes) said.stages
+  pub few : length said.sessions ≤ 64
+  pub plans : All (FitsPlan said.dcs) said.sessions
+  pub counted : said.commands ≡ commands_of said.sessions
+  pub within : said.commands ≤ 16384
+  pub steps : said.steps ≡ []
+
+pub start-sound : IsSound start
+start-sound = record {
+  dcs = λ h. absurd (omega arith);
+  round = λ h. absurd (omega arith);
+  begun = λ h. refl;
+  stages = All-nil (λ (given : StagesOf). FitsSizes given.sizes);
+  few = omega arith;
+  plans = All-nil (FitsPlan 0);
+  counted = refl;
+  within = omega arith;
+  steps = refl;
+}
+
+-- where no session has begun, all sessions keep anything
+none_fits : (dcs : ℕ) (plans : List SessionPlan) → plans ≡ [] → All (FitsPlan dcs) plans
+none_fits dcs plans none = subst (λ (ps : List SessionPlan). All (FitsPlan dcs) ps) (sym none) (All-nil (FitsPlan dcs))
+
+chariots-sound : (said after : Progress) (left : List (List ℕ)) → rank said.section ≡ 0 → IsSound said → chariots_line said left ≡ Ok after → IsSound after
+unfolding chariots_line
+chariots-sound said after left here sound same =
+    let read = bind_ok (number_at 1 1 left) _ after same in
+    let is : record said { section = section.Datacentres } ≡ after = cc (read.1.1) in
+    subst IsSound is (record {
+      dcs = λ h. absurd (omega arith);
+      round = λ h. absurd (omega arith);
+      begun = λ h. sound.begun (omega arith);
+      stages = sound.stages;
+      few = sound.few;
+      plans = sound.plans;
+      counted = sound.counted;
+      within = sound.within;
+      steps = sound.steps;
+    })
+
+datacentres-sound : (said after : Progress) (left : List (List ℕ)) → rank said.section ≡ 1 → IsSound said → datacentres_line said left ≡ Ok after → IsSound after
+unfolding datacentres_line
+datacentres-sound said after left here sound same =
+    let read = bind_ok (number_at 1 1 left) _ after same in
+    let n = number_takes 1 1 left read.0 read.1.0 in
+    let is : record said { dcs = read.0.0; section = section.Round } ≡ after = cc (read.1.1) in
+    subst IsSound is (record {
+      dcs = λ h. (n.least_is, omega (arith, n.most_is));
+      round = λ h. absurd (omega arith);
+      begun = λ h. sound.begun (omega arith);
+      stages = sound.stages;
+      few = sound.few;
+      plans = none_fits read.0.0 said.sessions (sound.begun (omega arith));
+      counted = sound.counted;
+      within = sound.within;
+      steps = sound.steps;
+    })
+
+round-sound : (said after : Progress) (left : List (List ℕ)) → rank said.section ≡ 2 → IsSound said → round_line said left ≡ Ok after → IsSound after
+unfolding round_line
+round-sound said after left here sound same =
+    let read = bind_ok (number_at 1 1024 left) _ after same in
+    let n = number_takes 1 1024 left read.0 read.1.0 in
+    let is : record said { round = read.0.0; section = section.Stages } ≡ after = cc (read.1.1) in
+    subst IsSound is (record {
+      dcs = λ h. sound.dcs (omega arith);
+      round = λ h. (n.least_is, n.most_is);
+      begun = λ h. sound.begun (omega arith);
+      stages = sound.stages;
+      few = sound.few;
+      plans = sound.plans;
+      counted = sound.counted;
+      within = sound.within;
+      steps = sound.steps;
+    })
+
+stages-sound : (said after : Progress) (left : List (List ℕ)) → IsSound said → stages_line said left ≡ Ok after → IsSound after
+unfolding stages_line
+stages-sound said after left sound same =
+    let dc = bind_ok (datacentre_at said.dcs left) _ after same in
+    let sizes = bind_ok (sizes_at dc.0.1) _ after dc.1.1 in
+    let new = guard_ok (is_given said.stages dc.0.0) _ _ after sizes.1.1 in
+    let given : StagesOf = record { dc = dc.0.0; sizes = sizes.0.0 } in
+    let is : record said { stages = said.stages ++ given ∷ [] } ≡ after = cc (new.1) in
+    subst IsSound is (record {
+      dcs = sound.dcs;
+      round = sound.round;
+      begun = sound.begun;
+      stages = All-push (λ (g : StagesOf). FitsSizes g.sizes) said.stages given sound.stages (sizes_take dc.0.1 sizes.0 sizes.1.0);
+      few = sound.few;
+      plans = sound.plans;
+      counted = sound.counted;
+      within = sound.within;
+      steps = sound.steps;
+    })
+
+commands_of-push : (plans : List SessionPlan) (home : ℕ) → commands_of (plans ++ record { home = home; commands = [] } ∷ []) ≡ commands_of plans
+commands_of-push [] home = refl
+commands_of-push (plan ∷ more) home = ap (λ n. length plan.commands + n) (commands_of-push more home)
+
+session-sound : (said after : Progress) (left : List (List ℕ)) → 3 ≤ rank said.section → IsSound said → session_line said left ≡ Ok after → IsSound after
+unfolding session_line
+session-sound said after left here sound same =
+    let home = bind_ok (datacentre_at said.dcs left) _ after same in
+    let room = guard_ok (nat_eq (length said.sessions) 64) _ _ after home.1.1 in
+    let other : nat_eq (length said.sessions) 64 ≡ false = room.0 in
+    let plan : SessionPlan = record { home = home.0.0; commands = [] } in
+    let is : record said { sessions = said.sessions ++ plan ∷ []; section = section.Sessions } ≡ after = cc (room.1) in
+    let fewer : length said.sessions < 64 = grind (arith, nat_tests, other, sound.few) in
+    subst IsSound is (record {
+      dcs = λ h. sound.dcs (omega arith);
+      round = λ h. sound.round (omega arith);
+      begun = λ h. absurd (omega arith);
+      stages = sound.stages;
+      few = omega (arith, length-append said.sessions (plan ∷ []), fewer);
+      plans = All-push (FitsPlan said.dcs) said.sessions plan sound.plans (record { home = datacentre_takes said.dcs left home.0 home.1.0; commands = All-nil FitsCommand });
+      counted = sound.counted ∙ sym (commands_of-push said.sessions home.0.0);
+      within = sound.within;
+      steps = sound.steps;
+    })
+
+onto_last-fits : (dcs : ℕ) (plans : List SessionPlan) (c : Command) → FitsCommand c → All (FitsPlan dcs) plans → All (FitsPlan dcs) (onto_last plans c)
+onto_last-fits dcs [] c fits all = All-nil (FitsPlan dcs)
+onto_last-fits dcs (plan ∷ []) c fits all =
+    let first = All-head (FitsPlan dcs) plan [] all in
+    let more : SessionPlan = record { home = plan.home; commands = plan.commands ++ c ∷ [] } in
+    All-cons (FitsPlan dcs) more [] (record { home = first.home; commands = All-push FitsCommand plan.commands c first.commands fits }) (All-nil (FitsPlan dcs))
+onto_last-fits dcs (plan ∷ next ∷ more) c fits all =
+    All-cons (FitsPlan dcs) plan (onto_last (next ∷ more) c) (All-head (FitsPlan dcs) plan (next ∷ more) all)
+    (onto_last-fits dcs (next ∷ more) c fits (All-tail (FitsPlan dcs) plan (next ∷ more) all))
+
+length-onto_last : (plans : List SessionPlan) (c : Command) → length (onto_last plans c) ≡ length plans
+length-onto_last [] c = refl
+length-onto_last (plan ∷ []) c = refl
+length-onto_last (plan ∷ next ∷ more) c = ap (λ n. suc n) (length-onto_last (next ∷ more) c)
+
+commands_of-onto_last : (plans : List SessionPlan) (c : Command) → 0 < length plans → commands_of (onto_last plans c) ≡ commands_of plans + 1
+commands_of-onto_last [] c some = absurd (omega arith)
+commands_of-onto_last (plan ∷ []) c some = omega (arith, length-append plan.commands (c ∷ []))
+commands_of-onto_last (plan ∷ next ∷ more) c some = omega (arith, commands_of-onto_last (next ∷ more) c (omega arith))
+
+command-sound : (said after : Progress) (c : Command) → rank said.section ≡ 4 → FitsCommand c → IsSound said → with_command said c ≡ Ok after → IsSound after
+unfolding with_command
+command-sound said after c here fits sound same =
+    let room = guard_ok (nat_le 16384 said.commands) _ _ after same in
+    let begun = guard_ok (nat_eq (length said.sessions) 0) _ _ after room.1 in
+    let is : record said { sessions = onto_last said.sessions c; commands = said.commands + 1 } ≡ after = cc (begun.1) in
+    let fewer : said.commands < 16384 = grind (arith, nat_tests, room.0) in
+    let some : 0 < length said.sessions = grind (arith, nat_tests, begun.0) in
+    subst IsSound is (record {
+      dcs = sound.dcs;
+      round = sound.round;
+      begun = λ h. absurd (omega arith);
+      stages = sound.stages;
+      few = omega (arith, length-onto_last said.sessions c, sound.few);
+      plans = onto_last-fits said.dcs said.sessions c fits sound.plans;
+      counted = omega (arith, commands_of-onto_last said.sessions c some, sound.counted);
+      within = omega (arith, fewer);
+      steps = sound.steps;
+    })
+
+append-sound : (said after : Progress) (left : List (List ℕ)) → rank said.section ≡ 4 → length left ≤ 9 → IsSound said → append_line said left ≡ Ok after → IsSound after
+unfolding append_line
+append-sound said after left here few sound same =
+    let body = bind_ok (body_at left) _ after same in
+    let tags = bind_ok (names_in body.0.1) _ after body.1.1 in
+    let taken = body_takes left body.0 body.1.0 in
+    let named = names_take body.0.1 tags.0 tags.1.0 in
+    let short : length tags.0 ≤ 8 = omega (arith, taken.shorter, ap (λ (ws : List (List ℕ)). length ws) named.0, few) in
+    command-sound said after (command.Append tags.0 body.0.0) here (short, (subst (λ (ws : List (List ℕ)). All IsName ws) named.0 named.1, taken.body)) sound tags.1.1
+
+read-sound : (said after : Progress) (left : List (List ℕ)) → rank said.section ≡ 4 → IsSound said → read_line said left ≡ Ok after → IsSound after
+unfolding read_line
+read-sound said after left here sound same =
+    let lid = bind_ok (number_at 1 4294967295 left) _ after same in
+    let n = number_takes 1 4294967295 left lid.0 lid.1.0 in
+    command-sound said after (command.Read lid.0.0) here (n.least_is, omega (arith, n.most_is)) sound lid.1.1
+
+command_line-sound : (said after : Progress) (word : CommandWord) (left : List (List ℕ)) → rank said.section ≡ 4 → length left ≤ most_words (CommandLine word) → IsSound said → command_meaning said word left ≡ Ok after → IsSound after
+command_line-sound said after Append left here few sound same = append-sound said after left here few sound same
+command_line-sound said after Put left here few sound same = cc
+command_line-sound said after Get left here few sound same = cc
+command_line-sound said after Tx left here few sound same = cc
+command_line-sound said after Read left here few sound same = read-sound said after left here sound same
+command_line-sound said after Last left here few sound same = cc
+
+-- a line that only goes on to a later section
+section-sound : (said after : Progress) (next : Section) → 3 ≤ rank said.section → 4 ≤ rank next → IsSound said → okay (record said { section = next }) ≡ okay after → IsSound after
+section-sound said after next here later sound same =
+    let is : record said { section = next } ≡ after = cc (same) in
+    subst IsSound is (record {
+      dcs = λ h. sound.dcs (omega arith);
+      round = λ h. sound.round (omega arith);
+      begun = λ h. absurd (omega arith);
+      stages = sound.stages;
+      few = sound.few;
+      plans = sound.plans;
+      counted = sound.counted;
+      within = sound.within;
+      steps = sound.steps;
+    })
+
+meaning-sound : (said after : Progress) (keyword : Keyword) (left : List (List ℕ)) → stands keyword said.section ≡ true → length left ≤ most_words keyword → IsSound said → meaning said keyword left ≡ Ok after → IsSound after
+meaning-sound said after Chariots left here few sound same = chariots-sound said after left (rank-start said.section here) sound same
+meaning-sound said after Datacentres left here few sound same = datacentres-sound said after left (rank-datacentres said.section here) sound same
+meaning-sound said after Round left here few sound same = round-sound said after left (rank-round said.section here) sound same
+meaning-sound said after Stages left here few sound same = stages-sound said after left sound same
+meaning-sound said after Session left here few sound same = session-sound said after left (rank-either said.section here) sound same
+meaning-sound said after (CommandLine word) left here few sound same = command_line-sound said after word left (rank-sessions said.section here) few sound same
+meaning-sound said after Steps left here few sound same = section-sound said after section.Steps (rank-either said.section here) (omega arith) sound same
+meaning-sound said after (Turn word) left here few sound same = cc
+meaning-sound said after End left here few sound same = section-sound said after section.Ended (omega (arith, rank-steps said.section here)) (omega arith) sound same
+
+keyword-sound : (said after : Progress) (keyword : Option Keyword) (left : List (List ℕ)) → IsSound said → keyword_after said keyword left ≡ Ok after → IsSound after
+keyword-sound said after None left sound same = cc
+keyword-sound said after (Some keyword) left sound same =
+    let place = guard_ok (not (stands keyword said.section)) _ _ after same in
+    let built = guard_ok (not (is_built keyword)) _ _ after place.1 in
+    let count = guard_ok (nat_lt (length left) (least_words keyword) || nat_lt (most_words keyword) (length left)) _ _ after built.1 in
+    let most = or_false (nat_lt (length left) (least_words keyword)) (nat_lt (most_words keyword) (length left)) count.0 in
+    let few : length left ≤ most_words keyword = grind (arith, nat_tests, most.1) in
+    meaning-sound said after keyword left (not_false (stands keyword said.section) place.0) few sound count.1
+
+words-sound : (said after : Progress) (left : List (List ℕ)) → IsSound said → words_after said left ≡ Ok after → IsSound after
+unfolding words_after
+words-sound said after [] sound same = cc
+words-sound said after (first ∷ more) sound same = keyword-sound said after (keyword_of first) more sound same
+
+pub line-sound : (said after : Progress) (line : List ℕ) → IsSound said → line_after said line ≡ Ok after → IsSound after
+unfolding line_after
+line-sound said after line sound same =
+    let bytes = guard_ok (not (list_all is_line_byte line)) _ _ after same in
+    let either = chosen (is_passed_over line) _ _ (okay after) bytes.1 in
+    elim either [
+      | inl over ↦ subst IsSound (okay-same said after over) sound
+      | inr on ↦
+          let spaced = guard_ok (list_any is_empty_word (words line)) _ _ after on in
+          let going = guard_ok (is_ended said.section) _ _ after spaced.1 in
+          words-sound said after (words line) sound going.1
+    ]
+
+sizes_found-fits : (given : Option StagesOf) → IfSome given (λ g. FitsSizes g.sizes) → FitsSizes (sizes_found given)
+sizes_found-fits None fits = record { batchers = one_is_size; filters = one_is_size; queues = one_is_size; maintainers = one_is_size; indexers = one_is_size; senders = one_is_size; receivers = one_is_size }
+sizes_found-fits (Some given) fits = fits
+
+find-fits : (test : StagesOf → Bool) (stages : List StagesOf) → All (λ (g : StagesOf). FitsSizes g.sizes) stages → IfSome (find test stages) (λ g. FitsSizes g.sizes)
+find-fits test [] all = tt
+find-fits test (given ∷ more) all =
+    elim (test given) as (λ v. IfSome (cond v (Some given) (find test more)) (λ g. FitsSizes g.sizes)) [
+      | true ↦ All-head (λ (g : StagesOf). FitsSizes g.sizes) given more all
+      | false ↦ find-fits test more (All-tail (λ (g : StagesOf). FitsSizes g.sizes) given more all)
+    ]
+
+sizes_upto-fits : (stages : List StagesOf) (dcs : ℕ) → All (λ (g : StagesOf). FitsSizes g.sizes) stages → All FitsSizes (sizes_upto stages dcs)
+sizes_upto-fits stages zero all = All-nil FitsSizes
+sizes_upto-fits stages (suc dc) all = All-push FitsSizes (sizes_upto stages dc) (sizes_given stages dc) (sizes_upto-fits stages dc all) (sizes_found-fits (find (λ given. nat_eq given.dc dc) stages) (find-fits (λ given. nat_eq given.dc dc) stages all))
+
+length-sizes_upto : (stages : List StagesOf) (dcs : ℕ) → length (sizes_upto stages dcs) ≡ dcs
+length-sizes_upto stages zero = refl
+length-sizes_upto stages (suc dc) = omega (arith, length-sizes_upto stages dc, length-append (sizes_upto stages dc) (sizes_given stages dc ∷ []))
+
+-- what all lines have said is a script
+pub said-fits : (said : Progress) → IsSound said → 3 ≤ rank said.section → FitsScript (script_said said)
+said-fits said sound here =
+    let dcs = sound.dcs (omega arith) in
+    record {
+      workload = record { some = dcs.0; few = dcs.1; homes = λ s within. (All-get_or (FitsPlan said.dcs) said.sessions s no_plan within sound.plans).home };
+      sessions = sound.few;
+      plans = sound.plans;
+      commands = omega (arith, sound.counted, sound.within);
+      round = sound.round here;
+      each = length-sizes_upto said.stages said.dcs;
+      sizes = sizes_upto-fits said.stages said.dcs sound.stages;
+      steps = omega (arith, ap (λ (steps : List Step). length steps) sound.steps);
+    }
+
+script_from-fits : (said : Progress) (number : ℕ) (left : List (List ℕ)) (script : Script) → IsSound said → script_from said number left ≡ Ok script → FitsScript script
+script_from-fits said number [] script sound same =
+    let ended = pass_ok (is_ended said.section) _ _ script same in
+    let is : script_said said ≡ script = cc (ended.1) in
+    subst FitsScript is (said-fits said sound (omega (arith, rank-ended said.section ended.0)))
+script_from-fits said number (line ∷ more) script sound same =
+    let step = bind_ok (told number (line_after said line)) (λ after. script_from after (number + 1) more) script same in
+    script_from-fits step.0 (number + 1) more script (line-sound said step.0 line sound (told_ok number (line_after said line) step.0 step.1.0)) step.1.1
+
+-- what lines spell keeps the ranges
+pub script_of-fits : (lines : List (List ℕ)) (script : Script) → script_of lines ≡ Ok script → FitsScript script
+script_of-fits lines script same = script_from-fits start 1 lines script start-sound same
+
+pub all-fit : (lines : List (List ℕ)) (result : Result Script ScriptFault) → IfOk result (λ script. script_of lines ≡ Ok script) → IfOk result FitsScript
+all-fit lines (Ok script) same = script_of-fits lines script same
+all-fit lines (Err fault) same = tt

@@ -1,0 +1,107 @@
+-- The first word of a line, the words after it, and the numbers that words spell.
+use Rattle.std.proofs.Common.{◌≡◌, ◌<◌, ◌≤◌, ◌^◌, ◌*◌, ℕ, ◌+◌, ◌-◌, suc, List, [], ◌∷◌, length, take, drop, get_or, refl, arith, Bool, true, false, zero, cond, ◌&&◌, ap, sym, ◌∙◌, add-one, drop-cons, lit<}
+use Rattle.std.proofs.Math.Nat.{pow-le-pow_right}
+use Rattle.std.proofs.lemmas.Str.{digit_value_digit}
+use Rattle.std.specs.Char.{digit_value}
+use Rattle.std.specs.Str.Parse.{digits_value_after}
+use Rattle.std.specs.Prelude.{Some, None, nat_lt, nat_le, ◌==◌, is_none, Ok, Err}
+use Rattle.std.specs.List.{position_or_len, position, list_all, count_by}
+use Rattle.std.proofs.lemmas.Grind.{common_steps, pow_more}
+use Rattle.std.proofs.lemmas.Bool.Decides.{nat_tests}
+use Rattle.std.proofs.lemmas.List.Splits.{slice_split_first, slice_split_none, length-slice_split}
+use Rattle.std.proofs.lemmas.List.Sums.{fails_before_first}
+use Rattle.cz_base.specs.Text.{first_bad, is_name_byte, is_body_byte}
+use Rattle.script_text.specs.declared.fault.Cause.TheVariants.{BadName, BadBody}
+use Rattle.script_text.specs.Words.{words, words_left, is_blank, is_digit}
+use Rattle.script_text.specs.Reading.{name_in, body_in}
+
+chose-some : (test : Bool) (n at : ℕ) → cond test (Some n) None ≡ Some at → (test ≡ true) × (n ≡ at)
+chose-some true n at same = (refl, cc)
+chose-some false n at same = cc
+
+chose-none : (test : Bool) (n : ℕ) → cond test (Some n) None ≡ None → test ≡ false
+chose-none true n same = cc
+chose-none false n same = refl
+
+-- the first word ends at the first blank
+pub words-first : (line : List ℕ) (at : ℕ) → position is_blank line ≡ Some at → words line ≡ take at line ∷ words (drop (at + 1) line)
+words-first line at found =
+    let chosen = chose-some (nat_lt (position_or_len is_blank line) (length line)) (position_or_len is_blank line) at found in
+    let within : position_or_len is_blank line < length line = grind (arith, nat_tests, chosen.0) in
+    let cut = slice_split_first is_blank line 0 within in
+    rw (← chosen.1) cut
+
+-- a line without a blank is one word
+pub words-one : (line : List ℕ) → position is_blank line ≡ None → words line ≡ line ∷ []
+words-one line none =
+    let chosen = chose-none (nat_lt (position_or_len is_blank line) (length line)) (position_or_len is_blank line) none in
+    let past : length line ≤ position_or_len is_blank line = grind (arith, nat_tests, chosen) in
+    slice_split_none is_blank line (λ k d within. fails_before_first is_blank line k d (omega arith))
+
+-- a line from some place on is the rest of the list
+rest_line : (line : List ℕ) (at : ℕ) → take (length line - at) (drop at line) ≡ drop at line
+rest_line line at = grind (arith, common_steps)
+
+pub words_left-first : (ended : Bool) (line : List ℕ) (at : ℕ) → ended ≡ false → position is_blank line ≡ Some at
+    → words_left ended line ≡ take at line ∷ words_left ended (take (length line - (at + 1)) (drop (at + 1) line))
+words_left-first true line at going found = cc
+words_left-first false line at going found = rw rest_line (words-first line at found)
+
+pub words_left-one : (ended : Bool) (line : List ℕ) → ended ≡ false → position is_blank line ≡ None → words_left ended line ≡ line ∷ []
+words_left-one true line going none = cc
+words_left-one false line going none = words-one line none
+
+-- there is one word more than blanks
+pub length-words_left : (ended : Bool) (line : List ℕ) → ended ≡ false → length (words_left ended line) ≡ count_by is_blank line + 1
+length-words_left true line going = cc
+length-words_left false line going = length-slice_split is_blank line
+
+and-false : (b : Bool) → (b && false) ≡ false
+and-false true = refl
+and-false false = refl
+
+-- a word with a bad byte is no name, and no body
+pub name_in-bad : (word : List ℕ) (at : ℕ) → first_bad is_name_byte word ≡ Some at → name_in word ≡ Err BadName
+name_in-bad word at bad =
+    ap (λ place. cond (nat_le 1 (length word) && nat_le (length word) 64 && is_none place) (Ok word) (Err BadName)) bad
+    ∙ ap (λ test. cond test (Ok word) (Err BadName)) (and-false (nat_le 1 (length word) && nat_le (length word) 64))
+
+pub body_in-bad : (sign : ℕ) (bytes : List ℕ) (at : ℕ) → first_bad is_body_byte bytes ≡ Some at → body_in (sign ∷ bytes) ≡ Err BadBody
+body_in-bad sign bytes at bad =
+    ap (λ place. cond ((sign == 61) && nat_le (length bytes) 1024 && is_none place) (Ok bytes) (Err BadBody)) bad
+    ∙ ap (λ test. cond test (Ok bytes) (Err BadBody)) (and-false ((sign == 61) && nat_le (length bytes) 1024))
+
+and-true : (a b : Bool) → (a && b) ≡ true → (a ≡ true) × (b ≡ true)
+and-true true b same = (refl, same)
+and-true false b same = cc
+
+-- each byte of digits is a digit
+pub digit_at : (digits : List ℕ) (i : ℕ) → list_all is_digit digits ≡ true → i < length digits → (48 ≤ get_or digits i 0) × (get_or digits i 0 ≤ 57)
+digit_at [] i good within = absurd (omega arith)
+digit_at (d ∷ ds) zero good within =
+    let both = and-true (is_digit d) (list_all is_digit ds) good in
+    let range = and-true (nat_le 48 d) (nat_le d 57) both.0 in
+    (grind (arith, nat_tests, range.0), grind (arith, nat_tests, range.1))
+digit_at (d ∷ ds) (suc i) good within =
+    let both = and-true (is_digit d) (list_all is_digit ds) good in
+    digit_at ds i both.1 (omega arith)
+
+-- one more digit is read
+pub more_digits : (n i : ℕ) (digits : List ℕ) → i < length digits → 48 ≤ get_or digits i 0 → get_or digits i 0 ≤ 57
+    → digits_value_after 10 n (drop i digits) ≡ digits_value_after 10 (n * 10 + (get_or digits i 0 - 48)) (drop (i + 1) digits)
+more_digits n i digits within least most =
+    let value : digit_value (get_or digits i 0) ≡ get_or digits i 0 - 48 = omega (arith, digit_value_digit (get_or digits i 0) (least, most)) in
+    rw (add-one, drop-cons digits i 0) (ap (λ d. digits_value_after 10 (n * 10 + d) (drop (suc i) digits)) value)
+
+-- a number of fewer than ten digits has room for one more
+pub room_for_digit : (n i : ℕ) → n < 10 ^ i → i < 10 → n * 10 + 9 < 10 ^ 10
+room_for_digit n i small few =
+    let next : 10 ^ (i + 1) ≤ 10 ^ 10 = pow-le-pow_right (lit< tt) {i = i + 1} {j = 10} (omega arith) in
+    omega (arith, pow_more 10 i)
+
+pub small_more : (n i d : ℕ) → n < 10 ^ i → d ≤ 57 → n * 10 + (d - 48) < 10 ^ (i + 1)
+small_more n i d small most = omega (arith, pow_more 10 i)
+
+pub body_in-bad_word : (word : List ℕ) (at : ℕ) → 1 ≤ length word → first_bad is_body_byte (take (length word - 1) (drop 1 word)) ≡ Some at → body_in word ≡ Err BadBody
+body_in-bad_word [] at some bad = absurd (omega arith)
+body_in-bad_word (sign ∷ bytes) at some bad = body_in-bad sign bytes at (ap (λ text. first_bad is_body_byte text) (sym (rest_line (sign ∷ bytes) 1)) ∙ bad)

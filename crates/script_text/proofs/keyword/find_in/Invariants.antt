@@ -1,0 +1,9 @@
+use Rattle.std.proofs.Common.{◌≡◌, drop}
+use Rattle.std.specs.Prelude.{bytes_eq}
+use Rattle.std.specs.List.{find}
+use Rattle.script_text.specs.Keywords.{text_of}
+use Rattle.script_text.proofs.keyword.find_in.Given as goal
+
+-- none of the keywords so far is the word
+abbrev pub invariant-loop-keyword : goal.invariant-loop-keyword
+invariant-loop-keyword l = find (λ keyword. bytes_eq (text_of keyword) l.word) (drop l.keyword-index l.keywords) ≡ find (λ keyword. bytes_eq (text_of keyword) l.word) l.keywords

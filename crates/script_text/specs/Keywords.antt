@@ -1,0 +1,159 @@
+-- The table of lines: the word that begins each, where it may stand, and how many words it has.
+use Rattle.std.specs.Prelude.{ℕ, ◌||◌, Bool, true, false, Option, List, [], ◌∷◌, codes, bytes_eq}
+use Rattle.std.specs.List.{find}
+use Rattle.script_text.specs.declared.section.Section.{Section}
+use Rattle.script_text.specs.declared.section.Section.TheVariants as section
+use Rattle.script_text.specs.declared.keyword.Keyword.{Keyword}
+use Rattle.script_text.specs.declared.keyword.Keyword.TheVariants.{Chariots, Datacentres, Round, Stages, Session, Command, Steps, Turn, End}
+use Rattle.script_text.specs.declared.keyword.CommandWord.{CommandWord}
+use Rattle.script_text.specs.declared.keyword.CommandWord.TheVariants.{Append, Put, Get, Tx, Read, Last}
+use Rattle.script_text.specs.declared.keyword.TurnWord.{TurnWord}
+use Rattle.script_text.specs.declared.keyword.TurnWord.TheVariants.{Client, Flush, Pass, Stamp, Token, Place, Gossip, Post, Learn, Send, Deliver, Lose, Copy, Floor, Collect, Announce, Mark, AddMaintainer, AddBatcher, AddQueue, AddSender, AddReceiver}
+
+abbrev pub command_text : CommandWord → List ℕ
+command_text Append = codes "append"
+command_text Put = codes "put"
+command_text Get = codes "get"
+command_text Tx = codes "tx"
+command_text Read = codes "read"
+command_text Last = codes "last"
+
+abbrev pub turn_text : TurnWord → List ℕ
+turn_text Client = codes "client"
+turn_text Flush = codes "flush"
+turn_text Pass = codes "pass"
+turn_text Stamp = codes "stamp"
+turn_text Token = codes "token"
+turn_text Place = codes "place"
+turn_text Gossip = codes "gossip"
+turn_text Post = codes "post"
+turn_text Learn = codes "learn"
+turn_text Send = codes "send"
+turn_text Deliver = codes "deliver"
+turn_text Lose = codes "lose"
+turn_text Copy = codes "copy"
+turn_text Floor = codes "floor"
+turn_text Collect = codes "collect"
+turn_text Announce = codes "announce"
+turn_text Mark = codes "mark"
+turn_text AddMaintainer = codes "addmaintainer"
+turn_text AddBatcher = codes "addbatcher"
+turn_text AddQueue = codes "addqueue"
+turn_text AddSender = codes "addsender"
+turn_text AddReceiver = codes "addreceiver"
+
+-- the first word of a line
+unfoldable pub text_of : Keyword → List ℕ
+text_of Chariots = codes "chariots"
+text_of Datacentres = codes "datacentres"
+text_of Round = codes "round"
+text_of Stages = codes "stages"
+text_of Session = codes "session"
+text_of (Command word) = command_text word
+text_of Steps = codes "steps"
+text_of (Turn word) = turn_text word
+text_of End = codes "end"
+
+abbrev pub keywords : List Keyword
+keywords = Chariots ∷ Datacentres ∷ Round ∷ Stages ∷ Session
+    ∷ Command Append ∷ Command Put ∷ Command Get ∷ Command Tx ∷ Command Read ∷ Command Last ∷ Steps
+    ∷ Turn Client ∷ Turn Flush ∷ Turn Pass ∷ Turn Stamp ∷ Turn Token ∷ Turn Place ∷ Turn Gossip ∷ Turn Post ∷ Turn Learn ∷ Turn Send ∷ Turn Deliver
+    ∷ Turn Lose ∷ Turn Copy ∷ Turn Floor ∷ Turn Collect ∷ Turn Announce ∷ Turn Mark ∷ Turn AddMaintainer ∷ Turn AddBatcher ∷ Turn AddQueue ∷ Turn AddSender ∷ Turn AddReceiver ∷ End ∷ []
+
+-- the keyword that a word spells
+unfoldable pub keyword_of : List ℕ → Option Keyword
+keyword_of word = find (λ keyword. bytes_eq (text_of keyword) word) keywords
+
+-- the sections
+abbrev pub is_start : Section → Bool
+is_start section.Start = true
+is_start _ = false
+
+abbrev pub is_datacentres : Section → Bool
+is_datacentres section.Datacentres = true
+is_datacentres _ = false
+
+abbrev pub is_round : Section → Bool
+is_round section.Round = true
+is_round _ = false
+
+abbrev pub is_stages : Section → Bool
+is_stages section.Stages = true
+is_stages _ = false
+
+abbrev pub is_sessions : Section → Bool
+is_sessions section.Sessions = true
+is_sessions _ = false
+
+abbrev pub is_steps : Section → Bool
+is_steps section.Steps = true
+is_steps _ = false
+
+abbrev pub is_ended : Section → Bool
+is_ended section.Ended = true
+is_ended _ = false
+
+-- where a line may stand
+abbrev pub stands : Keyword → Section → Bool
+stands Chariots here = is_start here
+stands Datacentres here = is_datacentres here
+stands Round here = is_round here
+stands Stages here = is_stages here
+stands Session here = is_stages here || is_sessions here
+stands (Command word) here = is_sessions here
+stands Steps here = is_stages here || is_sessions here
+stands (Turn word) here = is_steps here
+stands End here = is_steps here
+
+-- which lines are read yet
+abbrev pub command_is_built : CommandWord → Bool
+command_is_built Append = true
+command_is_built Put = false
+command_is_built Get = false
+command_is_built Tx = false
+command_is_built Read = true
+command_is_built Last = false
+
+abbrev pub is_built : Keyword → Bool
+is_built (Command word) = command_is_built word
+is_built (Turn word) = false
+is_built _ = true
+
+-- how many words follow the first, at least and at most
+abbrev pub least_command_words : CommandWord → ℕ
+least_command_words Append = 1
+least_command_words Put = 2
+least_command_words Get = 1
+least_command_words Tx = 1
+least_command_words Read = 1
+least_command_words Last = 2
+
+abbrev pub most_command_words : CommandWord → ℕ
+most_command_words Append = 9
+most_command_words Put = 2
+most_command_words Get = 1
+most_command_words Tx = 16
+most_command_words Read = 1
+most_command_words Last = 2
+
+abbrev pub least_words : Keyword → ℕ
+least_words Chariots = 1
+least_words Datacentres = 1
+least_words Round = 1
+least_words Stages = 8
+least_words Session = 1
+least_words (Command word) = least_command_words word
+least_words Steps = 0
+least_words (Turn word) = 0
+least_words End = 0
+
+abbrev pub most_words : Keyword → ℕ
+most_words Chariots = 1
+most_words Datacentres = 1
+most_words Round = 1
+most_words Stages = 8
+most_words Session = 1
+most_words (Command word) = most_command_words word
+most_words Steps = 0
+most_words (Turn word) = 0
+most_words End = 0

@@ -1,0 +1,260 @@
+ghost use Rattle.std.specs.Prelude.{◌≡◌, bytes_eq};
+ghost use Rattle.std.specs.List.{find};
+ghost use Rattle.script_text.specs.Keywords.{text_of, command_text, turn_text, keyword_of, stands, is_built, least_words, most_words, command_is_built, least_command_words, most_command_words};
+
+use crate::section::Section;
+
+/// The word that begins a line, and tells what kind of line it is.
+#[derive(Clone, Copy, Debug, PartialEq, Eq)]
+pub enum Keyword {
+    Chariots,
+    Datacentres,
+    Round,
+    Stages,
+    Session,
+    Command(CommandWord),
+    Steps,
+    Turn(TurnWord),
+    End,
+}
+
+/// The word that begins a command of a session.
+#[derive(Clone, Copy, Debug, PartialEq, Eq)]
+pub enum CommandWord {
+    Append,
+    Put,
+    Get,
+    Tx,
+    Read,
+    Last,
+}
+
+/// The word that begins a step line.
+#[derive(Clone, Copy, Debug, PartialEq, Eq)]
+pub enum TurnWord {
+    Client,
+    Flush,
+    Pass,
+    Stamp,
+    Token,
+    Place,
+    Gossip,
+    Post,
+    Learn,
+    Send,
+    Deliver,
+    Lose,
+    Copy,
+    Floor,
+    Collect,
+    Announce,
+    Mark,
+    AddMaintainer,
+    AddBatcher,
+    AddQueue,
+    AddSender,
+    AddReceiver,
+}
+
+// The words that begin lines.
+const KEYWORDS: [Keyword; 35] = [
+    Keyword::Chariots,
+    Keyword::Datacentres,
+    Keyword::Round,
+    Keyword::Stages,
+    Keyword::Session,
+    Keyword::Command(CommandWord::Append),
+    Keyword::Command(CommandWord::Put),
+    Keyword::Command(CommandWord::Get),
+    Keyword::Command(CommandWord::Tx),
+    Keyword::Command(CommandWord::Read),
+    Keyword::Command(CommandWord::Last),
+    Keyword::Steps,
+    Keyword::Turn(TurnWord::Client),
+    Keyword::Turn(TurnWord::Flush),
+    Keyword::Turn(TurnWord::Pass),
+    Keyword::Turn(TurnWord::Stamp),
+    Keyword::Turn(TurnWord::Token),
+    Keyword::Turn(TurnWord::Place),
+    Keyword::Turn(TurnWord::Gossip),
+    Keyword::Turn(TurnWord::Post),
+    Keyword::Turn(TurnWord::Learn),
+    Keyword::Turn(TurnWord::Send),
+    Keyword::Turn(TurnWord::Deliver),
+    Keyword::Turn(TurnWord::Lose),
+    Keyword::Turn(TurnWord::Copy),
+    Keyword::Turn(TurnWord::Floor),
+    Keyword::Turn(TurnWord::Collect),
+    Keyword::Turn(TurnWord::Announce),
+    Keyword::Turn(TurnWord::Mark),
+    Keyword::Turn(TurnWord::AddMaintainer),
+    Keyword::Turn(TurnWord::AddBatcher),
+    Keyword::Turn(TurnWord::AddQueue),
+    Keyword::Turn(TurnWord::AddSender),
+    Keyword::Turn(TurnWord::AddReceiver),
+    Keyword::End,
+];
+
+impl Keyword {
+    /// The keyword that a word spells.
+    #[tactic(auto, unfolding(crate::specs::Keywords::keyword_of))]
+    pub fn find(word: &[u8]) -> Option<Keyword>
+        ensures { result ≡ keyword_of word.now }
+    {
+        find_in(&KEYWORDS, word)
+    }
+
+    #[tactic(auto, unfolding(crate::specs::Keywords::text_of))]
+    fn text(self) -> &'static [u8]
+        ensures { result.now ≡ text_of self }
+    {
+        match self {
+            Keyword::Chariots => b"chariots",
+            Keyword::Datacentres => b"datacentres",
+            Keyword::Round => b"round",
+            Keyword::Stages => b"stages",
+            Keyword::Session => b"session",
+            Keyword::Command(word) => word.text(),
+            Keyword::Steps => b"steps",
+            Keyword::Turn(word) => word.text(),
+            Keyword::End => b"end",
+        }
+    }
+
+    /// Whether a line of this kind may stand in a section.
+    pub fn stands(self, section: Section) -> bool
+        ensures { result ≡ stands self section }
+    {
+        match self {
+            Keyword::Chariots => section == Section::Start,
+            Keyword::Datacentres => section == Section::Datacentres,
+            Keyword::Round => section == Section::Round,
+            Keyword::Stages => section == Section::Stages,
+            Keyword::Session => section == Section::Stages || section == Section::Sessions,
+            Keyword::Command(_) => section == Section::Sessions,
+            Keyword::Steps => section == Section::Stages || section == Section::Sessions,
+            Keyword::Turn(_) => section == Section::Steps,
+            Keyword::End => section == Section::Steps,
+        }
+    }
+
+    /// Whether lines of this kind are read yet.
+    pub fn is_built(self) -> bool
+        ensures { result ≡ is_built self }
+    {
+        match self {
+            Keyword::Chariots => true,
+            Keyword::Datacentres => true,
+            Keyword::Round => true,
+            Keyword::Stages => true,
+            Keyword::Session => true,
+            Keyword::Command(word) => word.is_built(),
+            Keyword::Steps => true,
+            Keyword::Turn(_) => false,
+            Keyword::End => true,
+        }
+    }
+
+    /// How many words may follow the first, at least and at most.
+    pub fn words(self) -> (usize, usize)
+        ensures least { result.0 ≡ least_words self }
+        ensures most { result.1 ≡ most_words self }
+    {
+        match self {
+            Keyword::Chariots => (1, 1),
+            Keyword::Datacentres => (1, 1),
+            Keyword::Round => (1, 1),
+            Keyword::Stages => (8, 8),
+            Keyword::Session => (1, 1),
+            Keyword::Command(word) => word.words(),
+            Keyword::Steps => (0, 0),
+            Keyword::Turn(_) => (0, 0),
+            Keyword::End => (0, 0),
+        }
+    }
+}
+
+// The first of some keywords that a word spells.
+fn find_in(keywords: &[Keyword], word: &[u8]) -> Option<Keyword>
+    ensures { result ≡ find (λ keyword. bytes_eq (text_of keyword) word.now) keywords.now }
+{
+    for keyword in keywords {
+        if keyword.text() == word {
+            return Some(*keyword);
+        }
+    }
+    None
+}
+
+impl CommandWord {
+    fn text(self) -> &'static [u8]
+        ensures { result.now ≡ command_text self }
+    {
+        match self {
+            CommandWord::Append => b"append",
+            CommandWord::Put => b"put",
+            CommandWord::Get => b"get",
+            CommandWord::Tx => b"tx",
+            CommandWord::Read => b"read",
+            CommandWord::Last => b"last",
+        }
+    }
+
+    fn is_built(self) -> bool
+        ensures { result ≡ command_is_built self }
+    {
+        match self {
+            CommandWord::Append => true,
+            CommandWord::Put => false,
+            CommandWord::Get => false,
+            CommandWord::Tx => false,
+            CommandWord::Read => true,
+            CommandWord::Last => false,
+        }
+    }
+
+    fn words(self) -> (usize, usize)
+        ensures least { result.0 ≡ least_command_words self }
+        ensures most { result.1 ≡ most_command_words self }
+    {
+        match self {
+            CommandWord::Append => (1, 9),
+            CommandWord::Put => (2, 2),
+            CommandWord::Get => (1, 1),
+            CommandWord::Tx => (1, 16),
+            CommandWord::Read => (1, 1),
+            CommandWord::Last => (2, 2),
+        }
+    }
+}
+
+impl TurnWord {
+    fn text(self) -> &'static [u8]
+        ensures { result.now ≡ turn_text self }
+    {
+        match self {
+            TurnWord::Client => b"client",
+            TurnWord::Flush => b"flush",
+            TurnWord::Pass => b"pass",
+            TurnWord::Stamp => b"stamp",
+            TurnWord::Token => b"token",
+            TurnWord::Place => b"place",
+            TurnWord::Gossip => b"gossip",
+            TurnWord::Post => b"post",
+            TurnWord::Learn => b"learn",
+            TurnWord::Send => b"send",
+            TurnWord::Deliver => b"deliver",
+            TurnWord::Lose => b"lose",
+            TurnWord::Copy => b"copy",
+            TurnWord::Floor => b"floor",
+            TurnWord::Collect => b"collect",
+            TurnWord::Announce => b"announce",
+            TurnWord::Mark => b"mark",
+            TurnWord::AddMaintainer => b"addmaintainer",
+            TurnWord::AddBatcher => b"addbatcher",
+            TurnWord::AddQueue => b"addqueue",
+            TurnWord::AddSender => b"addsender",
+            TurnWord::AddReceiver => b"addreceiver",
+        }
+    }
+}

@@ -1,0 +1,347 @@
+ghost use Rattle.std.specs.Prelude.{◌≡◌, ◌==◌, IfOk};
+ghost use Rattle.std.specs.List.{list_all, list_any, find};
+ghost use Rattle.script_text.specs.Words.{words, is_line_byte, is_empty_word};
+ghost use Rattle.script_text.specs.Reading.{Gives};
+ghost use Rattle.script_text.specs.Meaning.{start, chariots_line, datacentres_line, round_line, sizes_at, stages_line, session_line, append_line, read_line, with_command, command_meaning, meaning, words_after, line_after, is_given, is_passed_over, sizes_given, script_said};
+
+use crate::fault::{Cause, LineFault};
+use crate::keyword::{CommandWord, Keyword};
+use crate::section::Section;
+use crate::words::Words;
+use abstract_log::{Command, Script, SessionPlan, Sizes, Step, Workload};
+use cz_base::{DcId, NoMemory, Seq};
+use std::alloc::Global;
+
+/// How many members the stages of one datacentre have, as a line gives them.
+#[derive(Clone, Copy, Debug, PartialEq, Eq)]
+pub struct Stages {
+    pub dc: DcId,
+    pub sizes: Sizes,
+}
+
+/// What the lines of a script have said so far.
+#[derive(Debug, Drop)]
+pub struct Progress {
+    pub section: Section,
+    pub dcs: u32,
+    pub round: u32,
+    pub stages: Seq<Stages>,
+    pub sessions: Seq<SessionPlan>,
+    pub commands: u32,
+    pub steps: Seq<Step>,
+}
+
+/// The sizes of a datacentre that no line gives.
+const ONE_OF_EACH: Sizes = Sizes {
+    batchers: 1,
+    filters: 1,
+    queues: 1,
+    maintainers: 1,
+    indexers: 1,
+    senders: 1,
+    receivers: 1,
+};
+
+const MAX_SESSIONS: usize = 64;
+
+const MAX_COMMANDS: u32 = 16_384;
+
+impl Progress {
+    /// Nothing has been read.
+    pub fn new(alloc: Global) -> Self
+        ensures { result ≡ start }
+    {
+        Progress {
+            section: Section::Start,
+            dcs: 0,
+            round: 0,
+            stages: Seq::new(alloc),
+            sessions: Seq::new(alloc),
+            commands: 0,
+            steps: Seq::new(alloc),
+        }
+    }
+
+    #[tactic(auto, unfolding(crate::specs::Meaning::chariots_line))]
+    fn chariots(&mut self, words: &mut Words<'_>) -> Result<(), LineFault>
+        ensures { Gives (λ _. self.new) result (chariots_line self.old words.old) }
+    {
+        words.number(1, 1)?;
+        self.section = Section::Datacentres;
+        Ok(())
+    }
+
+    #[tactic(auto, unfolding(crate::specs::Meaning::datacentres_line))]
+    fn datacentres(&mut self, words: &mut Words<'_>) -> Result<(), LineFault>
+        ensures { Gives (λ _. self.new) result (datacentres_line self.old words.old) }
+    {
+        self.dcs = words.number(1, 1)?;
+        self.section = Section::Round;
+        Ok(())
+    }
+
+    #[tactic(auto, unfolding(crate::specs::Meaning::round_line))]
+    fn round(&mut self, words: &mut Words<'_>) -> Result<(), LineFault>
+        ensures { Gives (λ _. self.new) result (round_line self.old words.old) }
+    {
+        self.round = words.number(1, 1024)?;
+        self.section = Section::Stages;
+        Ok(())
+    }
+
+    #[tactic(auto, unfolding(crate::specs::Meaning::stages_line))]
+    fn stages(&mut self, words: &mut Words<'_>) -> Result<(), LineFault>
+        ensures { Gives (λ _. self.new) result (stages_line self.old words.old) }
+    {
+        let dc = words.datacentre(self.dcs)?;
+        let sizes = read_sizes(words)?;
+        if is_given(&self.stages, dc) {
+            return Err(LineFault::Bad(Cause::GivenTwice));
+        }
+        self.stages.push(Stages { dc, sizes })?;
+        Ok(())
+    }
+
+    #[tactic(auto, unfolding(crate::specs::Meaning::session_line))]
+    fn session(&mut self, words: &mut Words<'_>) -> Result<(), LineFault>
+        ensures { Gives (λ _. self.new) result (session_line self.old words.old) }
+    {
+        let home = words.datacentre(self.dcs)?;
+        if self.sessions.len() == MAX_SESSIONS {
+            return Err(LineFault::Bad(Cause::TooMany));
+        }
+        let commands = Seq::new(self.sessions.alloc());
+        self.sessions.push(SessionPlan { home, commands })?;
+        self.section = Section::Sessions;
+        Ok(())
+    }
+
+    #[tactic(auto, unfolding(crate::specs::Meaning::append_line))]
+    fn append(&mut self, words: &mut Words<'_>) -> Result<(), LineFault>
+        ensures { Gives (λ _. self.new) result (append_line self.old words.old) }
+    {
+        let alloc = self.sessions.alloc();
+        let body = words.body(alloc)?;
+        let tags = words.names(alloc)?;
+        self.put_command(Command::Append { tags, body })
+    }
+
+    #[tactic(auto, unfolding(crate::specs::Meaning::read_line))]
+    fn read(&mut self, words: &mut Words<'_>) -> Result<(), LineFault>
+        ensures { Gives (λ _. self.new) result (read_line self.old words.old) }
+    {
+        let lid = words.number(1, u32::MAX)?;
+        self.put_command(Command::Read {
+            lid: u64::from(lid),
+        })
+    }
+
+    // The next command of the session that began last.
+    #[tactic(auto, unfolding(crate::specs::Meaning::with_command))]
+    fn put_command(&mut self, command: Command) -> Result<(), LineFault>
+        ensures { Gives (λ _. self.new) result (with_command self.old command) }
+    {
+        if self.commands >= MAX_COMMANDS {
+            return Err(LineFault::Bad(Cause::TooMany));
+        }
+        let Some(mut plan) = self.sessions.pop() else {
+            return Err(LineFault::Bad(Cause::OutOfPlace));
+        };
+        plan.commands.push(command)?;
+        self.sessions.push(plan)?;
+        self.commands += 1;
+        Ok(())
+    }
+
+    // One line, but for its first word, whose place and number of words are right.
+    fn line(&mut self, keyword: Keyword, words: &mut Words<'_>) -> Result<(), LineFault>
+        ensures { Gives (λ _. self.new) result (meaning self.old keyword words.old) }
+    {
+        match keyword {
+            Keyword::Chariots => self.chariots(words),
+            Keyword::Datacentres => self.datacentres(words),
+            Keyword::Round => self.round(words),
+            Keyword::Stages => self.stages(words),
+            Keyword::Session => self.session(words),
+            Keyword::Command(word) => self.command(word, words),
+            Keyword::Steps => {
+                self.section = Section::Steps;
+                Ok(())
+            }
+            Keyword::Turn(_) => Err(LineFault::Bad(Cause::NotBuilt)),
+            Keyword::End => {
+                self.section = Section::Ended;
+                Ok(())
+            }
+        }
+    }
+
+    fn command(&mut self, word: CommandWord, words: &mut Words<'_>) -> Result<(), LineFault>
+        ensures { Gives (λ _. self.new) result (command_meaning self.old word words.old) }
+    {
+        match word {
+            CommandWord::Append => self.append(words),
+            CommandWord::Put => Err(LineFault::Bad(Cause::NotBuilt)),
+            CommandWord::Get => Err(LineFault::Bad(Cause::NotBuilt)),
+            CommandWord::Tx => Err(LineFault::Bad(Cause::NotBuilt)),
+            CommandWord::Read => self.read(words),
+            CommandWord::Last => Err(LineFault::Bad(Cause::NotBuilt)),
+        }
+    }
+
+    // The next line, by its words.
+    #[tactic(auto, unfolding(crate::specs::Meaning::words_after))]
+    fn take_words(&mut self, words: &mut Words<'_>) -> Result<(), LineFault>
+        ensures { Gives (λ _. self.new) result (words_after self.old words.old) }
+    {
+        let Some(first) = words.next_word() else {
+            return Err(LineFault::Bad(Cause::UnknownWord));
+        };
+        let Some(keyword) = Keyword::find(first) else {
+            return Err(LineFault::Bad(Cause::UnknownWord));
+        };
+        if !keyword.stands(self.section) {
+            return Err(LineFault::Bad(Cause::OutOfPlace));
+        }
+        if !keyword.is_built() {
+            return Err(LineFault::Bad(Cause::NotBuilt));
+        }
+        let (least, most) = keyword.words();
+        let count = words.len();
+        if count < least || most < count {
+            return Err(LineFault::Bad(Cause::WrongWords));
+        }
+        self.line(keyword, words)
+    }
+
+    /// The next line.
+    #[tactic(auto, unfolding(crate::specs::Meaning::line_after))]
+    pub fn take_line(&mut self, line: &[u8]) -> Result<(), LineFault>
+        ensures { Gives (λ _. self.new) result (line_after self.old line.now) }
+    {
+        if !has_line_bytes(line) {
+            return Err(LineFault::Bad(Cause::BadByte));
+        }
+        if is_passed_over(line) {
+            return Ok(());
+        }
+        if has_empty_word(line) {
+            return Err(LineFault::Bad(Cause::BadSpacing));
+        }
+        if self.section.is_ended() {
+            return Err(LineFault::Bad(Cause::AfterEnd));
+        }
+        self.take_words(&mut Words::new(line))
+    }
+
+    /// The script that the lines have said.
+    pub fn into_script(self) -> Result<Script, NoMemory>
+        ensures { IfOk result (λ script. script ≡ script_said self) }
+    {
+        let mut sizes = Seq::new(self.stages.alloc());
+        for number in 0..self.dcs {
+            sizes.push(sizes_given(&self.stages, number))?;
+        }
+        let Progress {
+            dcs,
+            round,
+            sessions,
+            steps,
+            ..
+        } = self;
+        Ok(Script {
+            workload: Workload { dcs, sessions },
+            round,
+            sizes,
+            steps,
+        })
+    }
+}
+
+// The numbers of members of the seven stages.
+#[tactic(auto, unfolding(crate::specs::Meaning::sizes_at))]
+fn read_sizes(words: &mut Words<'_>) -> Result<Sizes, LineFault>
+    ensures { Gives (λ sizes. (sizes, words.new)) result (sizes_at words.old) }
+{
+    let batchers = words.number(1, 1)?;
+    let filters = words.number(1, 1)?;
+    let queues = words.number(1, 1)?;
+    let maintainers = words.number(1, 16)?;
+    let indexers = words.number(1, 1)?;
+    let senders = words.number(1, 1)?;
+    let receivers = words.number(1, 1)?;
+    Ok(Sizes {
+        batchers,
+        filters,
+        queues,
+        maintainers,
+        indexers,
+        senders,
+        receivers,
+    })
+}
+
+// Whether a line has given the sizes of a datacentre.
+fn is_given(stages: &Seq<Stages>, dc: DcId) -> bool
+    ensures { result ≡ is_given stages.now dc }
+{
+    stages.iter().any(|given| given.dc == dc)
+}
+
+// The sizes of a datacentre.
+fn sizes_given(stages: &Seq<Stages>, number: u32) -> Sizes
+    ensures { result ≡ sizes_given stages.now number }
+{
+    match given_at(stages.as_slice(), number) {
+        Some(given) => given.sizes,
+        None => ONE_OF_EACH,
+    }
+}
+
+// The first line that gives the sizes of a datacentre.
+fn given_at(stages: &[Stages], number: u32) -> Option<Stages>
+    ensures { result ≡ find (λ given. given.dc == number) stages.now }
+{
+    for given in stages {
+        if given.dc.number() == number {
+            return Some(*given);
+        }
+    }
+    None
+}
+
+// Whether each byte of a line is one that a line may have.
+fn has_line_bytes(line: &[u8]) -> bool
+    ensures { result ≡ list_all is_line_byte line.now }
+{
+    line.iter().all(|b| is_line_byte(*b))
+}
+
+fn is_line_byte(byte: u8) -> bool
+    ensures { result ≡ is_line_byte byte }
+{
+    matches!(byte, 0x20..=0x7E)
+}
+
+// Whether a line says nothing: it is empty or a comment.
+fn is_passed_over(line: &[u8]) -> bool
+    ensures { result ≡ is_passed_over line.now }
+{
+    match line {
+        [] => true,
+        [first, ..] => *first == b'#',
+    }
+}
+
+// Whether two blanks stand side by side in a line, or one at an end.
+fn has_empty_word(line: &[u8]) -> bool
+    ensures { result ≡ list_any is_empty_word (words line.now) }
+{
+    let mut left = Words::new(line);
+    while let Some(word) = left.next_word() {
+        if word.is_empty() {
+            return true;
+        }
+    }
+    false
+}

@@ -1,0 +1,51 @@
+ghost use Rattle.std.specs.Prelude.{◌≡◌, ◌+◌, ◌<◌, ◌^◌, ℕ, length, IfOk, IsErrOf, Ok, Err};
+ghost use Rattle.script_text.specs.Lines.{lines};
+ghost use Rattle.script_text.specs.Fits.{FitsScript};
+ghost use Rattle.script_text.specs.Meaning.{script_of};
+ghost use Rattle.script_text.specs.declared.fault.Cause.{Cause};
+
+use crate::Lines;
+use crate::fault::{Cause, LineFault, ScriptFault};
+use crate::progress::Progress;
+use abstract_log::Script;
+use std::alloc::Global;
+
+/// The script that the bytes spell, or the first bad line with its first cause.
+pub fn read_script(alloc: Global, bytes: &[u8]) -> Result<Script, ScriptFault>
+    // The number of each line, and of the line after the last, is one.
+    requires { length bytes.now + 2 < 2 ^ 32 }
+    ensures ok { IfOk result (λ script. script_of (lines bytes.now) ≡ Ok script) }
+    ensures fits { IfOk result FitsScript }
+    ensures bad { (line : ℕ) (cause : Cause) → IsErrOf result (ScriptFault.Bad line cause) → script_of (lines bytes.now) ≡ Err (ScriptFault.Bad line cause) }
+{
+    read_lines(alloc, bytes)
+}
+
+// The script, line by line.
+fn read_lines(alloc: Global, bytes: &[u8]) -> Result<Script, ScriptFault>
+    requires { length bytes.now + 2 < 2 ^ 32 }
+    ensures ok { IfOk result (λ script. script_of (lines bytes.now) ≡ Ok script) }
+    ensures bad { (line : ℕ) (cause : Cause) → IsErrOf result (ScriptFault.Bad line cause) → script_of (lines bytes.now) ≡ Err (ScriptFault.Bad line cause) }
+{
+    let mut progress = Progress::new(alloc);
+    let mut left = Lines::new(bytes);
+    let mut line: u32 = 1;
+    while let Some(text) = left.next_line() {
+        match progress.take_line(text) {
+            Ok(()) => {}
+            Err(LineFault::Bad(cause)) => return Err(ScriptFault::Bad { line, cause }),
+            Err(LineFault::NoMemory) => return Err(ScriptFault::NoMemory),
+        }
+        line += 1;
+    }
+    if !progress.section.is_ended() {
+        return Err(ScriptFault::Bad {
+            line,
+            cause: Cause::TooShort,
+        });
+    }
+    match progress.into_script() {
+        Ok(script) => Ok(script),
+        Err(_) => Err(ScriptFault::NoMemory),
+    }
+}

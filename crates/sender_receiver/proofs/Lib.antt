@@ -1,0 +1,4 @@
+pub mod Walking
+pub mod Fitting
+pub mod Placed
+pub mod OneMessage

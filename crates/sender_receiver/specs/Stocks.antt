@@ -1,0 +1,36 @@
+-- A stock: records at places that rise.
+use Rattle.std.specs.Prelude.{ℕ, suc, ◌<◌, ◌≤◌, ◌==◌, nat_lt, List, [], ◌∷◌, map, find, Option}
+use Rattle.std.proofs.Common.{arith}
+use Rattle.std.specs.Option.{option_map}
+use Rattle.causal_deps.specs.declared.record.Record.{Record}
+
+-- a record and its place
+pub record Stocked : Type 0 where
+  pub lid : ℕ
+  pub rec : Record
+
+-- each place is above the one before it, and the first is above low
+abbrev pub IsRisingFrom : ℕ → List Stocked → Type 0
+IsRisingFrom low [] = Unit {0}
+IsRisingFrom low (x ∷ xs) = (low < x.lid) × IsRisingFrom x.lid xs
+
+-- the first place above lid
+abbrev pub place_after : List Stocked → ℕ → Option ℕ
+place_after held lid = option_map (λ x. x.lid) (find (λ x. nat_lt lid x.lid) held)
+
+-- the record at the place lid
+abbrev pub record_at : List Stocked → ℕ → Option Record
+record_at held lid = option_map (λ x. x.rec) (find (λ x. x.lid == lid) held)
+
+-- the records, in the order of their places
+abbrev pub records_in : List Stocked → List Record
+records_in held = map (λ x. x.rec) held
+
+-- the records of a list at the places from n on
+abbrev pub placed_from : ℕ → List Record → List Stocked
+placed_from n [] = []
+placed_from n (r ∷ rs) = record { lid = n; rec = r } ∷ placed_from (suc n) rs
+
+pub placed_rise : (n low : ℕ) (records : List Record) → low < n → IsRisingFrom low (placed_from n records)
+placed_rise n low [] past = tt
+placed_rise n low (r ∷ rs) past = (past, placed_rise (suc n) n rs (omega arith))

@@ -1,0 +1,48 @@
+ghost use Rattle.std.specs.Prelude.{◌≡◌, List, IsSome, Some};
+ghost use Rattle.sender_receiver.specs.Stocks.{Stocked, IsRisingFrom, place_after, record_at};
+
+use causal_deps::Record;
+use cz_base::{Lid, Seq};
+
+/// The records that a sender may tell, by rising place.
+pub trait Stock {
+    /// The records and their places.
+    ghost held: { Self → List Stocked };
+
+    /// The least place above `lid`, or `None` exactly where there is none.
+    fn after(&self, lid: Lid) -> Option<Lid>
+        ensures { result ≡ place_after (held self.now) lid };
+
+    /// The record at the place `lid`, which is there.
+    fn rec(&self, lid: Lid) -> &Record
+        requires { IsSome (record_at (held self.now) lid) }
+        ensures { record_at (held self.now) lid ≡ Some result.now };
+
+    /// Places rise, and count from 1.
+    ghost rising: { (stock : Self) → IsRisingFrom 0 (held stock) };
+}
+
+/// A list of records as a stock: its first record stands at place 1, and so on.
+impl Stock for Seq<Record> {
+    ghost use Rattle.sender_receiver.specs.Stocks.{placed_from, placed_rise};
+    ghost use Rattle.std.proofs.Common.{arith};
+
+    ghost held = { placed_from 1 };
+
+    ghost rising = { λ records. placed_rise 1 0 records (Prim.omega arith) };
+
+    fn after(&self, lid: Lid) -> Option<Lid> {
+        if lid < self.len() as u64 {
+            Some(lid + 1)
+        } else {
+            None
+        }
+    }
+
+    fn rec(&self, lid: Lid) -> &Record {
+        match self.get(lid as usize - 1) {
+            Some(rec) => rec,
+            None => unreachable!(),
+        }
+    }
+}

@@ -1,0 +1,279 @@
+-- Lists of takes.
+use Rattle.std.proofs.Common.{◌≡◌, ◌≢◌, ◌⊎◌, ℕ, zero, suc, ◌+◌, ◌<◌, ◌≤◌, Bool, true, false, cond, not, leb, ltb, eqb, ◌&&◌, ◌||◌, List, [], ◌∷◌, ◌++◌, length, map, filter, get_or, set, refl, ap, ap₂, sym, ◌∙◌, subst, inl, inr, arith, Option, Contains, append_assoc, append-nil}
+use Rattle.std.specs.List.{All, AllPairs, count_by, sum_by}
+use Rattle.std.proofs.lemmas.Bool.{cases_eq, cases_lt, cases_Bool, and_cases, or_cases, or_left, or_right, or_parts, not-true, not-false, not_from_true, not_from_false, true≢false, cond-true, cond-false, eqb-true, eq-eqb, false_from_ne_true, true_from_ne_false}
+use Rattle.std.proofs.lemmas.List.{get_or-set_same, get_or-set_other, length-set, get_or_default}
+use Rattle.std.proofs.lemmas.List.Elements.{All-nil, All-cons, All-head, All-tail, All-append, All-weaker, All-contains, Contains-get_or}
+use Rattle.std.proofs.lemmas.List.Kept.{AllPairs-filter}
+use Rattle.std.proofs.lemmas.List.Sums.{sum_by-cons, sum_by-append}
+use Rattle.causal_deps.specs.declared.record.Record.{Record}
+use Rattle.causal_deps.specs.declared.record.Item.{Item}
+use Rattle.causal_deps.specs.declared.record.Item.TheVariants.{External}
+use Rattle.causal_deps.proofs.Lists.{Contains-filter}
+use Rattle.toid_filter.specs.declared.champions.Share.{Share}
+use Rattle.toid_filter.specs.declared.filter.Verdict.{Verdict}
+use Rattle.toid_filter.specs.declared.filter.Verdict.TheVariants.{Passed, Held, Dropped}
+use Rattle.toid_filter.specs.Champions.{champion}
+use Rattle.toid_filter.specs.Filters.{FilterState, Announcement, no_filter, filter_at, owns, is_passed, has_name, is_held, is_known, times_passed, all_below, is_done, is_free, is_held_back, is_due, due, not_due, reached_by, released, stands_before, with_held, with_record, mark_accepted, IsTaken, Fits, IsTidy, IsSteady, IsSound, AreSound}
+use Rattle.toid_filter.specs.Laws.{AreTaken, AreTakenByChampions, with_filter, HasPassed, Waits}
+use Rattle.toid_filter.proofs.Tests.{all_below_from, settled_from, filter_keeps, all_from_contains, name_parts, name_from, before_parts, pairs_append}
+use Rattle.toid_filter.proofs.Reached.{reached_more, reached_covers}
+use Rattle.toid_filter.proofs.FilterLemmas.{passed_parts, passed_from, held_parts, held_from, free_from, own_is, with_gives, with_keeps, with_has, known_more, tidy_with, released_steady, passed_known, unpassed_then, taken_steady, steady_sound, count_none, count_once}
+use Rattle.toid_filter.proofs.Running.{above_reached}
+
+-- What passes where all that is due passes.
+module _ (f : FilterState) (tidy : IsTidy f) where
+  due_in : (d : Record) → Contains (due f) d → Contains f.held d × (is_due f d ≡ true)
+  due_in d has = Contains-filter (is_due f) f.held d has
+
+  fits_in : (d : Record) → Contains (due f) d → Fits f d
+  fits_in d has = All-contains (Fits f) f.held d tidy.fits (due_in d has).0
+
+  due_passed : (h t : ℕ) (d : Record) → Contains (due f) d → d.host ≡ h → d.toid ≡ t → is_passed (released f) h t ≡ true
+  due_passed h t d has host toid =
+      let fits = fits_in d has in
+      let low : d.toid ≤ get_or (reached_by f.reached (due f)) d.host 0 = reached_covers f.reached (due f) d has (omega (arith, fits.host, tidy.width)) in
+      ap₂ (is_passed (released f)) (sym host) (sym toid) ∙ passed_from (released f) d.host d.toid fits.first low (own_is f d fits)
+
+  stays_passed : (h t : ℕ) → is_passed f h t ≡ true → is_passed (released f) h t ≡ true
+  stays_passed h t is = let parts = passed_parts f h t is in passed_from (released f) h t parts.0 (omega (arith, parts.1, reached_more f.reached (due f) h)) parts.2
+
+  -- a number that is passed now was passed, or is due
+  passed_now : (h t : ℕ) → is_passed (released f) h t ≡ true → is_passed f h t ≡ false → (d : Record) × Contains (due f) d × (d.host ≡ h) × (d.toid ≡ t)
+  passed_now h t is new = elim (or_cases (is_passed f h t) (is_held f h t) (passed_known f tidy h t is)) [
+    | inl before ↦ absurd (true≢false (sym before ∙ new))
+    | inr held ↦
+        let found = held_parts f h t held in
+        elim (cases_Bool (is_due f found.0)) [
+          | inl yes_due ↦ (found.0, filter_keeps (is_due f) f.held found.0 found.1 yes_due, found.2, found.3)
+          | inr no_due ↦ absurd (unpassed_then f tidy found.0 (filter_keeps (λ r. not (is_due f r)) f.held found.0 found.1 (not_from_false (is_due f found.0) no_due)) (ap₂ (is_passed (released f)) found.2 found.3 ∙ is))
+        ]
+  ]
+
+  due_new : (h t : ℕ) → is_passed f h t ≡ true → count_by (has_name h t) (due f) ≡ 0
+  due_new h t passed = count_none (has_name h t) (due f) (all_from_contains (λ q. has_name h t q ≡ false) (due f) (λ q has. false_from_ne_true (has_name h t q) (λ named.
+      let is = name_parts h t q named in
+      true≢false (sym passed ∙ sym (ap₂ (is_passed f) is.0 is.1) ∙ All-contains (λ (r : Record). is_passed f r.host r.toid ≡ false) f.held q tidy.unpassed (due_in q has).0))))
+
+  due_rising : AllPairs (λ q r. stands_before r.host r.toid q ≡ true) (due f)
+  due_rising = AllPairs-filter (λ q r. stands_before r.host r.toid q ≡ true) (is_due f) f.held tidy.rising
+
+  due_counts : (h t : ℕ) → count_by (has_name h t) (due f) + times_passed h t f ≡ times_passed h t (released f)
+  due_counts h t = elim (cases_Bool (is_passed f h t)) [
+    | inl passed ↦
+        let was : times_passed h t f ≡ 1 = cond-true (is_passed f h t) 1 0 passed in
+        let now : times_passed h t (released f) ≡ 1 = cond-true (is_passed (released f) h t) 1 0 (stays_passed h t passed) in
+        omega (arith, was, now, due_new h t passed)
+    | inr new ↦
+        let was : times_passed h t f ≡ 0 = cond-false (is_passed f h t) 1 0 new in
+        elim (cases_Bool (is_passed (released f) h t)) [
+          | inl passed ↦
+              let now : times_passed h t (released f) ≡ 1 = cond-true (is_passed (released f) h t) 1 0 passed in
+              let found = passed_now h t passed new in
+              omega (arith, was, now, count_once h t (due f) due_rising, count_some h t (due f) found.0 found.1 (name_from h t found.0 found.2 found.3))
+          | inr not_now ↦
+              let now : times_passed h t (released f) ≡ 0 = cond-false (is_passed (released f) h t) 1 0 not_now in
+              let none : count_by (has_name h t) (due f) ≡ 0 = count_none (has_name h t) (due f) (all_from_contains (λ q. has_name h t q ≡ false) (due f) (λ q has. false_from_ne_true (has_name h t q) (λ named.
+              let is = name_parts h t q named in true≢false (sym (due_passed h t q has is.0 is.1) ∙ not_now)))) in
+              omega (arith, was, now, none)
+        ]
+  ]
+    where
+      count_some : (h t : ℕ) (xs : List Record) (x : Record) → Contains xs x → has_name h t x ≡ true → 1 ≤ count_by (has_name h t) xs
+      count_some h t [] x (k, within, is) named = absurd (omega arith)
+      count_some h t (y ∷ xs) x (zero, within, is) named =
+          let here : ◌≡◌ {A = ℕ} (cond (has_name h t y) 1 0) 1 = cond-true (has_name h t y) 1 0 (ap (has_name h t) is ∙ named) in
+          omega (arith, here, sum_by-cons (λ z. cond (has_name h t z) 1 0) y xs)
+      count_some h t (y ∷ xs) x (suc k, within, is) named = omega (arith, count_some h t xs x (k, omega arith, is) named, sum_by-cons (λ z. cond (has_name h t z) 1 0) y xs)
+
+  known_stays : (h t : ℕ) → is_known f h t ≡ true → is_known (released f) h t ≡ true
+  known_stays h t is = elim (or_cases (is_passed f h t) (is_held f h t) is) [
+    | inl passed ↦ or_left (is_passed (released f) h t) (is_held (released f) h t) (stays_passed h t passed)
+    | inr held ↦
+        let found = held_parts f h t held in
+        elim (cases_Bool (is_due f found.0)) [
+          | inl yes_due ↦ or_left (is_passed (released f) h t) (is_held (released f) h t) (due_passed h t found.0 (filter_keeps (is_due f) f.held found.0 found.1 yes_due) found.2 found.3)
+          | inr no_due ↦ or_right (is_passed (released f) h t) (is_held (released f) h t) (held_from (released f) h t found.0 (filter_keeps (λ r. not (is_due f r)) f.held found.0 found.1 (not_from_false (is_due f found.0) no_due)) found.2 found.3)
+        ]
+  ]
+
+  -- what releasing passes
+  release_passes : HasPassed f (released f) (due f)
+  release_passes = record {
+    out = refl;
+    rising = λ i j d before within host. elim (before_parts (get_or (due f) j d).host (get_or (due f) j d).toid (get_or (due f) i d) (due_rising i j d before within)) [
+      | inl low ↦ absurd (omega (arith, host))
+      | inr same ↦ same.1
+    ];
+    counts = due_counts;
+    new = all_from_contains (λ (q : Record). get_or f.reached q.host 0 < q.toid) (due f) (λ q has. above_reached f q (fits_in q has) (All-contains (λ (r : Record). is_passed f r.host r.toid ≡ false) f.held q tidy.unpassed (due_in q has).0));
+    reached = all_from_contains (λ (q : Record). q.toid ≤ get_or (released f).reached q.host 0) (due f) (λ q has. reached_covers f.reached (due f) q has (omega (arith, (fits_in q has).host, tidy.width)));
+    grows = reached_more f.reached (due f);
+    keeps = known_stays;
+  }
+
+none_passed : (f : FilterState) → HasPassed f f []
+none_passed f = record {
+  out = sym (append-nil f.out);
+  rising = λ i j d before within. absurd (omega arith);
+  counts = λ h t. omega arith;
+  new = All-nil (λ (q : Record). get_or f.reached q.host 0 < q.toid);
+  reached = All-nil (λ (q : Record). q.toid ≤ get_or f.reached q.host 0);
+  grows = λ h. omega arith;
+  keeps = λ h t is. is;
+}
+
+-- one take
+taken_passes : (f : FilterState) (r : Record) (v : Verdict) (g : FilterState) → IsSteady f → Fits f r → IsTaken f r v g → ((gained : List Record) × HasPassed f g gained) × (is_known g r.host r.toid ≡ true)
+taken_passes f r Dropped g steady fits took = subst (λ x. ((gained : List Record) × HasPassed f x gained) × (is_known x r.host r.toid ≡ true)) (sym took.1) (([], none_passed f), took.0)
+taken_passes f r Held g steady fits took = subst (λ x. ((gained : List Record) × HasPassed f x gained) × (is_known x r.host r.toid ≡ true)) (sym took.2) (
+  (
+    [],
+    record {
+      out = sym (append-nil f.out);
+      rising = λ i j d before within. absurd (omega arith);
+      counts = λ h t. omega arith;
+      new = All-nil (λ (q : Record). get_or f.reached q.host 0 < q.toid);
+      reached = All-nil (λ (q : Record). q.toid ≤ get_or f.reached q.host 0);
+      grows = λ h. omega arith;
+      keeps = known_more f r;
+    },
+  ),
+  or_right (is_passed (with_held f r) r.host r.toid) (is_held (with_held f r) r.host r.toid) (held_from (with_held f r) r.host r.toid r (with_has f r) refl refl),
+)
+taken_passes f r Passed g steady fits took = subst (λ x. ((gained : List Record) × HasPassed f x gained) × (is_known x r.host r.toid ≡ true)) (sym took.2)
+    (let tidy : IsTidy (with_held f r) = tidy_with f r steady.tidy fits took.0 in
+    let all = release_passes (with_held f r) tidy in (
+      (due (with_held f r), record { out = all.out; rising = all.rising; counts = all.counts; new = all.new; reached = all.reached; grows = all.grows; keeps = λ h t is. all.keeps h t (known_more f r h t is) }),
+      all.keeps r.host r.toid (or_right (is_passed (with_held f r) r.host r.toid) (is_held (with_held f r) r.host r.toid) (held_from (with_held f r) r.host r.toid r (with_has f r) refl refl)),
+    ))
+
+-- one after another
+then_passed : (f g k : FilterState) (a b : List Record) → HasPassed f g a → HasPassed g k b → HasPassed f k (a ++ b)
+then_passed f g k a b one two = record {
+  out = two.out ∙ ap (λ xs. xs ++ map External b) one.out ∙ append_assoc f.out (map External a) (map External b) ∙ ap (λ xs. f.out ++ xs) (sym (map_append a b));
+  rising = pairs_append (λ (q r : Record). q.host ≡ r.host → q.toid < r.toid) a b one.rising two.rising
+      (all_from_contains (λ (q : Record). All (λ (r : Record). q.host ≡ r.host → q.toid < r.toid) b) a (λ q has. all_from_contains (λ (r : Record). q.host ≡ r.host → q.toid < r.toid) b (λ r later host.
+      omega (arith, All-contains (λ (x : Record). x.toid ≤ get_or g.reached x.host 0) a q one.reached has, All-contains (λ (x : Record). get_or g.reached x.host 0 < x.toid) b r two.new later, ap (λ h. get_or g.reached h 0) host))));
+  counts = λ h t. omega (arith, one.counts h t, two.counts h t, sum_by-append (λ q. cond (has_name h t q) 1 0) a b);
+  new = All-append (λ (q : Record). get_or f.reached q.host 0 < q.toid) a b one.new
+      (all_from_contains (λ (q : Record). get_or f.reached q.host 0 < q.toid) b (λ q has. omega (arith, one.grows q.host, All-contains (λ (x : Record). get_or g.reached x.host 0 < x.toid) b q two.new has)));
+  reached = All-append (λ (q : Record). q.toid ≤ get_or k.reached q.host 0) a b
+      (all_from_contains (λ (q : Record). q.toid ≤ get_or k.reached q.host 0) a (λ q has. omega (arith, two.grows q.host, All-contains (λ (x : Record). x.toid ≤ get_or g.reached x.host 0) a q one.reached has))) two.reached;
+  grows = λ h. omega (arith, one.grows h, two.grows h);
+  keeps = λ h t is. two.keeps h t (one.keeps h t is);
+}
+  where
+    map_append : (xs ys : List Record) → map External (xs ++ ys) ≡ map External xs ++ map External ys
+    map_append [] ys = refl
+    map_append (x ∷ xs) ys = ap (λ zs. External x ∷ zs) (map_append xs ys)
+
+pub all_steady : (f g : FilterState) (rs : List Record) (vs : List Verdict) → IsSteady f → AreTaken f rs vs g → IsSteady g
+all_steady f g [] [] steady took = subst IsSteady (sym took) steady
+all_steady f g [] (v ∷ vs) steady took = absurd took
+all_steady f g (r ∷ rs) [] steady took = absurd took
+all_steady f g (r ∷ rs) (v ∷ vs) steady (next, fits, took, rest) = all_steady next g rs vs (taken_steady f r v next steady fits took) rest
+
+pub all_pass : (f g : FilterState) (rs : List Record) (vs : List Verdict) → IsSteady f → AreTaken f rs vs g → (gained : List Record) × HasPassed f g gained
+all_pass f g [] [] steady took = ([], subst (λ x. HasPassed f x []) (sym took) (none_passed f))
+all_pass f g [] (v ∷ vs) steady took = absurd took
+all_pass f g (r ∷ rs) [] steady took = absurd took
+all_pass f g (r ∷ rs) (v ∷ vs) steady (next, fits, took, rest) =
+    let first = (taken_passes f r v next steady fits took).0 in
+    let later = all_pass next g rs vs (taken_steady f r v next steady fits took) rest in
+    (first.0 ++ later.0, then_passed f next g first.0 later.0 first.1 later.1)
+
+pub all_known : (f g : FilterState) (rs : List Record) (vs : List Verdict) → IsSteady f → AreTaken f rs vs g → All (λ r. is_known g r.host r.toid ≡ true) rs
+all_known f g [] [] steady took = All-nil (λ (r : Record). is_known g r.host r.toid ≡ true)
+all_known f g [] (v ∷ vs) steady took = absurd took
+all_known f g (r ∷ rs) [] steady took = absurd took
+all_known f g (r ∷ rs) (v ∷ vs) steady (next, fits, took, rest) =
+    let next_steady = taken_steady f r v next steady fits took in
+    let later = all_pass next g rs vs next_steady rest in
+    All-cons (λ (q : Record). is_known g q.host q.toid ≡ true) r rs (later.1.keeps r.host r.toid (taken_passes f r v next steady fits took).1) (all_known next g rs vs next_steady rest)
+
+-- what is held waits
+all_below_not : (test : ℕ → Bool) (t : ℕ) → all_below test t ≡ false → (u : ℕ) × (u < t) × (test u ≡ false)
+all_below_not test zero is = absurd (cc)
+all_below_not test (suc t) is = elim (and_cases (test t) (all_below test t) is) [
+  | inl here ↦ (t, omega arith, here)
+  | inr below ↦ let found = all_below_not test t below in (found.0, omega (arith, found.1), found.2)
+]
+
+pub held_waits : (f : FilterState) (r : Record) → is_free f r ≡ false → Waits f r
+held_waits f r is = elim (and_cases (all_below (is_done f r.host) r.toid) (not (is_held_back f.accepted r.host r.toid)) is) [
+  | inr marked ↦ inr (not-false (is_held_back f.accepted r.host r.toid) marked)
+  | inl undone ↦
+      let found = all_below_not (is_done f r.host) r.toid undone in
+      let parts = or_parts (eqb found.0 0) (not (owns f r.host found.0) || is_passed f r.host found.0) found.2 in
+      let rest = or_parts (not (owns f r.host found.0)) (is_passed f r.host found.0) parts.1 in
+      let some : 1 ≤ found.0 = elim (cases_lt found.0 1) [
+        | inl none ↦ absurd (true≢false (sym (eq-eqb found.0 0 (omega arith)) ∙ parts.0))
+        | inr more ↦ more
+      ] in
+      inl (found.0, some, found.1, not-false (owns f r.host found.0) rest.0, rest.1)
+]
+
+-- the relation gives one filter
+pub taken_is : (f g : FilterState) (r : Record) (v : Verdict) → IsTaken f r v g → g ≡ with_record f r
+taken_is f g r Dropped took = took.1 ∙ sym (cond-true (is_known f r.host r.toid) f (cond (is_free f r) (released (with_held f r)) (with_held f r)) took.0)
+taken_is f g r Held took = took.2 ∙ sym (cond-false (is_free f r) (released (with_held f r)) (with_held f r) took.1) ∙ sym (cond-false (is_known f r.host r.toid) f (cond (is_free f r) (released (with_held f r)) (with_held f r)) took.0)
+taken_is f g r Passed took = took.2 ∙ sym (cond-true (is_free f r) (released (with_held f r)) (with_held f r) took.1) ∙ sym (cond-false (is_known f r.host r.toid) f (cond (is_free f r) (released (with_held f r)) (with_held f r)) took.0)
+
+-- all filters
+sum_once : (n : FilterState → ℕ) (c base : ℕ) (fs : List FilterState) → ((i : ℕ) → i < length fs → n (filter_at fs i) ≤ 1) → ((i : ℕ) → i < length fs → base + i ≢ c → n (filter_at fs i) ≡ 0) → sum_by n fs ≤ 1
+sum_once n c base [] most none = omega arith
+sum_once n c base (f ∷ fs) most none = elim (cases_eq base c) [
+  | inl same ↦ omega (arith, sum_by-cons n f fs, most 0 (omega arith), sum_zero fs (λ i low. none (suc i) (omega arith) (λ is. absurd (omega (arith, is)))))
+  | inr other ↦ omega (arith, sum_by-cons n f fs, none 0 (omega arith) (λ is. other (omega (arith, is))), sum_once n c (suc base) fs (λ i low. most (suc i) (omega arith)) (λ i low apart. none (suc i) (omega arith) (λ is. apart (omega (arith, is)))))
+]
+  where
+    sum_zero : (gs : List FilterState) → ((i : ℕ) → i < length gs → n (filter_at gs i) ≡ 0) → sum_by n gs ≡ 0
+    sum_zero [] all = refl
+    sum_zero (g ∷ gs) all = omega (arith, sum_by-cons n g gs, all 0 (omega arith), sum_zero gs (λ i low. all (suc i) (omega arith)))
+
+pub passed_once : (map : List (List Share)) (a : Option Announcement) (fs : List FilterState) → AreSound map a fs → (h t : ℕ) → sum_by (times_passed h t) fs ≤ 1
+passed_once map a fs sound h t = sum_once (times_passed h t) (champion map h t) 0 fs
+    (λ i low. omega (arith, (sound.each i no_filter low).once h t))
+    (λ i low apart. cond-false (is_passed (filter_at fs i) h t) 1 0 (false_from_ne_true (is_passed (filter_at fs i) h t) (λ is.
+    let own = eqb-true (champion (filter_at fs i).map h t) (filter_at fs i).number ((sound.each i no_filter low).own_passed h t is) in
+    apart (omega (arith, own, sound.numbers i low, ap (λ m. champion m h t) (sound.one_map i no_filter low))))))
+
+taken_same : (f g : FilterState) (r : Record) (v : Verdict) → IsTaken f r v g → (g.number ≡ f.number) × (g.map ≡ f.map) × (g.accepted ≡ f.accepted)
+taken_same f g r Dropped took = (ap (λ (x : FilterState). x.number) took.1, ap (λ (x : FilterState). x.map) took.1, ap (λ (x : FilterState). x.accepted) took.1)
+taken_same f g r Held took = (ap (λ (x : FilterState). x.number) took.2, ap (λ (x : FilterState). x.map) took.2, ap (λ (x : FilterState). x.accepted) took.2)
+taken_same f g r Passed took = (ap (λ (x : FilterState). x.number) took.2, ap (λ (x : FilterState). x.map) took.2, ap (λ (x : FilterState). x.accepted) took.2)
+
+at_set : (P : ℕ → FilterState → Type 0) (fs : List FilterState) (i : ℕ) (x : FilterState) → P i x → ((j : ℕ) → j < length fs → P j (filter_at fs j)) → (j : ℕ) → j < length (set fs i x) → P j (filter_at (set fs i x) j)
+at_set P fs i x here all j within =
+    let inside : j < length fs = omega (arith, length-set fs i x) in
+    elim (cases_eq j i) [
+      | inl same ↦ subst (λ k. P k (get_or (set fs i x) k no_filter)) (sym same) (let low : i < length fs = omega arith in subst (P i) (sym (get_or-set_same fs i x no_filter low)) here)
+      | inr other ↦ subst (P j) (sym (get_or-set_other fs i j x no_filter other)) (all j inside)
+    ]
+
+all_at : (P : FilterState → Type 0) (fs : List FilterState) → ((j : ℕ) → j < length fs → P (filter_at fs j)) → All P fs
+all_at P fs each = λ k d within. subst P (get_or_default fs k no_filter d within) (each k within)
+
+-- a sound filter in the place of another by the same map, with the same accepted mark
+pub sound_set : (map : List (List Share)) (a : Option Announcement) (fs : List FilterState) (i : ℕ) (x : FilterState) → IsSound x → x.number ≡ i → x.map ≡ map → x.accepted ≡ (filter_at fs i).accepted → i < length fs
+    → AreSound map a fs → AreSound map a (set fs i x)
+sound_set map a fs i x sound number one_map accepted low h = record {
+  each = all_at IsSound (set fs i x) (at_set (λ _ y. IsSound y) fs i x sound (λ j within. h.each j no_filter within));
+  one_map = all_at (λ (y : FilterState). y.map ≡ map) (set fs i x) (at_set (λ _ (y : FilterState). y.map ≡ map) fs i x one_map (λ j within. h.one_map j no_filter within));
+  numbers = at_set (λ j (y : FilterState). y.number ≡ j) fs i x number h.numbers;
+  heard = at_set (λ j (y : FilterState). y.accepted ≡ mark_accepted a j) fs i x (accepted ∙ h.heard i low) h.heard;
+  later = h.later;
+  room = h.room;
+  there = λ g t. omega (arith, h.there g t, length-set fs i x);
+  enough = λ g. omega (arith, h.enough g, length-set fs i x);
+}
+
+pub champions_sound : (map : List (List Share)) (a : Option Announcement) (fs gs : List FilterState) (rs : List Record) → AreSound map a fs → AreTakenByChampions map fs rs gs → AreSound map a gs
+champions_sound map a fs gs [] sound took = subst (AreSound map a) (sym took) sound
+champions_sound map a fs gs (r ∷ rs) sound (v, next, fits, took, rest) =
+    let i : ℕ = champion map r.host r.toid in
+    let low : i < length fs = sound.there r.host r.toid in
+    let same = taken_same (filter_at fs i) next r v took in
+    champions_sound map a (set fs i next) gs rs
+    (sound_set map a fs i next (steady_sound next (taken_steady (filter_at fs i) r v next (sound.each i no_filter low).steady fits took)) (same.0 ∙ sound.numbers i low) (same.1 ∙ sound.one_map i no_filter low) same.2 low sound) rest

@@ -1,0 +1,6 @@
+pub mod ShareLemmas
+pub mod Tests
+pub mod Reached
+pub mod FilterLemmas
+pub mod Running
+pub mod LawsLemmas

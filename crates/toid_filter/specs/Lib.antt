@@ -1,0 +1,3 @@
+pub mod Champions
+pub mod Filters
+pub mod Laws

@@ -1,0 +1,43 @@
+//! What holds over any list of takes. Each law is a function that does nothing: its contract is the law.
+ghost use Rattle.std.specs.Prelude.{◌≡◌, ℕ, ◌≤◌, true, All, List, sum_by};
+ghost use Rattle.causal_deps.specs.declared.record.Record.{Record};
+ghost use Rattle.toid_filter.specs.declared.champions.Share.{Share};
+ghost use Rattle.toid_filter.specs.declared.filter.Verdict.{Verdict};
+ghost use Rattle.toid_filter.specs.Filters.{FilterState, Announcement, is_known, times_passed, with_record, AreSound, Fits, IsSound, IsTaken};
+ghost use Rattle.toid_filter.specs.Laws.{AreTaken, AreTakenByChampions, HasPassed, Waits};
+ghost use Rattle.std.specs.Prelude.{Option};
+
+/// What a take leaves is determined: it is the one filter that the record leads to.
+pub fn takes_are_determined()
+    ensures { (f g : FilterState) (r : Record) (v : Verdict) → IsTaken f r v g → g ≡ with_record f r }
+{}
+
+/// A sound filter stays sound over any list of takes.
+pub fn takes_keep_filters_sound()
+    ensures { (f g : FilterState) (rs : List Record) (vs : List Verdict) → IsSound f → AreTaken f rs vs g → IsSound g }
+{}
+
+/// Over any list of takes a filter passes each number at most once, and those of one host in rising order.
+pub fn numbers_pass_once_and_in_order()
+    ensures { (f g : FilterState) (rs : List Record) (vs : List Verdict) → IsSound f → AreTaken f rs vs g → (gained : List Record) × HasPassed f g gained }
+{}
+
+/// Nothing is lost: after any list of takes each record taken was passed or is held.
+pub fn nothing_is_lost()
+    ensures { (f g : FilterState) (rs : List Record) (vs : List Verdict) → IsSound f → AreTaken f rs vs g → All (λ r. is_known g r.host r.toid ≡ true) rs }
+{}
+
+/// What a filter holds waits: as soon as the smaller own numbers were passed and no mark is in the way, it is passed.
+pub fn held_records_wait()
+    ensures { (f : FilterState) → IsSound f → All (Waits f) f.held }
+{}
+
+/// All filters of a datacentre together pass no number twice.
+pub fn one_filter_passes_a_number()
+    ensures { (shares : List (List Share)) (announcement : Option Announcement) (fs : List FilterState) → AreSound shares announcement fs → (h t : ℕ) → sum_by (times_passed h t) fs ≤ 1 }
+{}
+
+/// All filters of a datacentre stay sound over any list of takes by the champions.
+pub fn champions_keep_filters_sound()
+    ensures { (shares : List (List Share)) (announcement : Option Announcement) (fs gs : List FilterState) (rs : List Record) → AreSound shares announcement fs → AreTakenByChampions shares fs rs gs → AreSound shares announcement gs }
+{}

@@ -1,0 +1,25 @@
+//! Filters let each record from another datacentre pass once, and those of one host in order.
+//!
+//! Every number of a host has one champion among the filters, by a map that deals the numbers round
+//! and round. A filter passes its own numbers of a host in order, so those that it passed are all
+//! its own numbers up to one bound: the greatest that it passed. That bound, one for each host,
+//! stands in the model in place of a list, and a million numbers passed take no more memory than
+//! none. It also serves when the map grows: that happens at a mark above all that was passed, and
+//! below the mark the map deals as before.
+//!
+//! The model of a filter is a `FilterState`; what a call of `take` does is the relation `IsTaken`.
+//! The layer above gets from it that each number passes at most once, in rising order, and that
+//! nothing is lost.
+#![tactic(auto)]
+
+mod champions;
+mod filter;
+mod laws;
+
+pub use champions::{Champions, Share};
+pub use filter::{Filter, Mark, Verdict};
+pub use laws::{
+    champions_keep_filters_sound, held_records_wait, nothing_is_lost,
+    numbers_pass_once_and_in_order, one_filter_passes_a_number, takes_are_determined,
+    takes_keep_filters_sound,
+};

@@ -1,0 +1,7 @@
+pub mod ListLemmas
+pub mod ItemLemmas
+pub mod DrainLemmas
+pub mod RoomLemmas
+pub mod TokenLemmas
+pub mod Stamping
+pub mod QueueLemmas

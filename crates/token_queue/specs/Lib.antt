@@ -1,0 +1,4 @@
+pub mod Items
+pub mod Drain
+pub mod Queues
+pub mod Room

@@ -1,0 +1,26 @@
+//! The token of a datacentre, and the queues that stamp records while they hold it.
+//!
+//! A queue collects items: drafts of local writes, and records from elsewhere. The one token goes from
+//! queue to queue. The queue that has it drains one list, first the items that the token deferred and
+//! then its own: the first item that is ready gets the next position, again until none is ready, and
+//! what is left is deferred. Each stamped record waits in the outbox of the maintainer that owns its
+//! position.
+//!
+//! Contracts see the token and the queue as records (`TokenState`, `QueueState`). The token keeps the
+//! counts of the log and not the log.
+//!
+//! For the layers above: whatever log has the token's counts and length, `Queue::stamp` is the drain of
+//! the list into that log, and the token it leaves stands for the longer log. What holds of every drain
+//! is in `laws`: its steps are ready one after another, nothing is lost or made, a log in causal order
+//! stays so, no item that is left is ready, and counts are enough.
+#![tactic(auto)]
+
+mod entry;
+pub mod laws;
+mod queue;
+mod room;
+mod token;
+
+pub use entry::{Entry, Stamp, StampFault};
+pub use queue::Queue;
+pub use token::Token;
