@@ -112,43 +112,43 @@ rank-ended section.Steps h = cc
 rank-ended section.Ended h = refl
 
 -- a line or a word that is read
-abbrev okay : {A : Type 0} → A → Result A Cause
+abbrev pub okay : {A : Type 0} → A → Result A Cause
 okay x = Ok x
 
-okay-same : {A : Type 0} (x y : A) → okay x ≡ okay y → x ≡ y
+pub okay-same : {A : Type 0} (x y : A) → okay x ≡ okay y → x ≡ y
 okay-same x y same = cc
 
 -- a step of reading that went on
-bind_ok : {A B E : Type 0} (r : Result A E) (f : A → Result B E) (y : B) → (r >>= f) ≡ Ok y → (x : A) × ((r ≡ Ok x) × (f x ≡ Ok y))
+pub bind_ok : {A B E : Type 0} (r : Result A E) (f : A → Result B E) (y : B) → (r >>= f) ≡ Ok y → (x : A) × ((r ≡ Ok x) × (f x ≡ Ok y))
 bind_ok (Ok x) f y same = (x, (refl, same))
 bind_ok (Err e) f y same = cc
 
 -- a test that let it go on
-guard_ok : {A E : Type 0} (b : Bool) (e : E) (r : Result A E) (y : A) → cond b (Err e) r ≡ Ok y → (b ≡ false) × (r ≡ Ok y)
+pub guard_ok : {A E : Type 0} (b : Bool) (e : E) (r : Result A E) (y : A) → cond b (Err e) r ≡ Ok y → (b ≡ false) × (r ≡ Ok y)
 guard_ok true e r y same = cc
 guard_ok false e r y same = (refl, same)
 
-pass_ok : {A E : Type 0} (b : Bool) (e : E) (r : Result A E) (y : A) → cond b r (Err e) ≡ Ok y → (b ≡ true) × (r ≡ Ok y)
+pub pass_ok : {A E : Type 0} (b : Bool) (e : E) (r : Result A E) (y : A) → cond b r (Err e) ≡ Ok y → (b ≡ true) × (r ≡ Ok y)
 pass_ok true e r y same = (refl, same)
 pass_ok false e r y same = cc
 
-and_both : (a b : Bool) → (a && b) ≡ true → (a ≡ true) × (b ≡ true)
+pub and_both : (a b : Bool) → (a && b) ≡ true → (a ≡ true) × (b ≡ true)
 and_both true b same = (refl, same)
 and_both false b same = cc
 
-chosen : {A : Type 0} (b : Bool) (x y z : A) → cond b x y ≡ z → (x ≡ z) ⊎ (y ≡ z)
+pub chosen : {A : Type 0} (b : Bool) (x y z : A) → cond b x y ≡ z → (x ≡ z) ⊎ (y ≡ z)
 chosen true x y z same = inl same
 chosen false x y z same = inr same
 
-told_ok : (number : ℕ) (r : Result Progress Cause) (y : Progress) → told number r ≡ Ok y → r ≡ Ok y
+pub told_ok : (number : ℕ) (r : Result Progress Cause) (y : Progress) → told number r ≡ Ok y → r ≡ Ok y
 told_ok number (Ok x) y same = cc
 told_ok number (Err e) y same = cc
 
-not_false : (b : Bool) → not b ≡ false → b ≡ true
+pub not_false : (b : Bool) → not b ≡ false → b ≡ true
 not_false true h = refl
 not_false false h = cc
 
-or_false : (a b : Bool) → (a || b) ≡ false → (a ≡ false) × (b ≡ false)
+pub or_false : (a b : Bool) → (a || b) ≡ false → (a ≡ false) × (b ≡ false)
 or_false true b same = cc
 or_false false b same = (refl, same)
 

@@ -2,6 +2,7 @@ ghost use Rattle.std.specs.Prelude.{◌≡◌, ◌+◌, ◌<◌, ◌^◌, ℕ, l
 ghost use Rattle.script_text.specs.Lines.{lines};
 ghost use Rattle.script_text.specs.Fits.{FitsScript};
 ghost use Rattle.script_text.specs.Meaning.{script_of};
+ghost use Rattle.script_text.specs.Spelled.{Spells};
 ghost use Rattle.script_text.specs.declared.fault.Cause.{Cause};
 
 use crate::Lines;
@@ -10,13 +11,17 @@ use crate::progress::Progress;
 use abstract_log::Script;
 use std::alloc::Global;
 
-/// The script that the bytes spell, or the first bad line with its first cause.
+/// The script that the bytes spell, or the first bad line with its first cause. Lines count from 1;
+/// where the input ends before `end`, the bad line is the one after the last.
 pub fn read_script(alloc: Global, bytes: &[u8]) -> Result<Script, ScriptFault>
     // The number of each line, and of the line after the last, is one.
     requires { length bytes.now + 2 < 2 ^ 32 }
     ensures ok { IfOk result (λ script. script_of (lines bytes.now) ≡ Ok script) }
-    ensures fits { IfOk result FitsScript }
     ensures bad { (line : ℕ) (cause : Cause) → IsErrOf result (ScriptFault.Bad line cause) → script_of (lines bytes.now) ≡ Err (ScriptFault.Bad line cause) }
+
+    // What is read keeps the ranges of scripts, and the lines are those that write it.
+    ensures fits { IfOk result FitsScript }
+    ensures spelled { IfOk result (λ script. Spells script (lines bytes.now)) }
 {
     read_lines(alloc, bytes)
 }

@@ -1,4 +1,6 @@
-ghost use Rattle.std.specs.Prelude.{◌≡◌, [], length, All, IfOk, OnOk};
+ghost use Rattle.std.specs.Prelude.{◌≡◌, ◌+◌, ◌≤◌, [], length, All, IfOk, OnOk};
+ghost use Rattle.std.specs.Bool.{OnTrue};
+ghost use Rattle.std.specs.Option.{ForSome};
 ghost use Rattle.token_queue.specs.Items.{FitsItem};
 
 use causal_deps::{Counts, Draft, Item, Kind, Place, Record};
@@ -28,6 +30,17 @@ fn counts(needs: [u64; 3]) -> Counts
     counts
 }
 
+// The datacentre, if it is one of the three.
+fn within(host: DcId) -> DcId
+    ensures { result < 3 }
+{
+    if host.number() < DCS {
+        host
+    } else {
+        DcId::FIRST
+    }
+}
+
 // A record that comes from elsewhere, the toid-th of its host.
 fn external(alloc: Global, host: DcId, toid: u64, needs: [u64; 3]) -> Result<Item, NoMemory>
     ensures { IfOk result (λ item. FitsItem 3 item) }
@@ -36,7 +49,11 @@ fn external(alloc: Global, host: DcId, toid: u64, needs: [u64; 3]) -> Result<Ite
         return Err(NoMemory);
     };
     Ok(Item::External(Record {
-        host: if host.number() < DCS { host } else { DcId::FIRST },
+        host: if host.number() < DCS {
+            host
+        } else {
+            DcId::FIRST
+        },
         toid,
         session: host.number(),
         index: 1,
@@ -69,15 +86,9 @@ fn holder(alloc: Global, dc: DcId, maintainers: u32) -> Result<Queue, NoMemory>
     ensures { IfOk result (λ queue. queue.items ≡ []) }
 {
     let members = maintainers.clamp(1, 16);
-    let here = if dc.number() < DCS { dc } else { DcId::FIRST };
+    let here = within(dc);
     let mut queue = Queue::new(alloc, 0, Epochs::first(alloc, 1, members)?)?;
-    queue.hold(Token::first(
-        alloc,
-        here,
-        DCS,
-        1,
-        Epochs::first(alloc, 1, members)?,
-    ));
+    queue.hold(Token::first(alloc, here, DCS, 1, Epochs::first(alloc, 1, members)?));
     Ok(queue)
 }
 
@@ -85,7 +96,8 @@ fn holder(alloc: Global, dc: DcId, maintainers: u32) -> Result<Queue, NoMemory>
 fn put(alloc: Global, queue: &mut Queue, item: Item) -> Result<(), NoMemory>
     requires queue { All (FitsItem 3) queue.old.items }
     requires item { FitsItem 3 item }
-    ensures { All (FitsItem 3) queue.new.items }
+    ensures queue { All (FitsItem 3) queue.new.items }
+    ensures few { length queue.new.items ≤ length queue.old.items + 1 }
 {
     let mut items = Seq::new(alloc);
     items.push(item)?;
@@ -93,15 +105,26 @@ fn put(alloc: Global, queue: &mut Queue, item: Item) -> Result<(), NoMemory>
     Ok(())
 }
 
+// Whether the token is of three datacentres, and its numbers are far from their limits.
+fn is_small(queue: &Queue) -> bool
+    ensures { OnTrue result (ForSome queue.now.token (λ t. (length t.counts ≡ 3) × (t.last ≤ 1000) × (length t.deferred ≤ 1000))) }
+{
+    match queue.token() {
+        Some(token) => {
+            token.counts().dcs() == DCS && token.last() <= 1000 && token.deferred() <= 1000
+        }
+        None => true,
+    }
+}
+
 // Stamps, where numbers are far from their limits.
 fn stamp(queue: &mut Queue) -> Result<Seq<Stamp>, StampFault>
-    requires { All (FitsItem 3) queue.old.items }
+    requires queue { All (FitsItem 3) queue.old.items }
+    requires few { length queue.old.items ≤ 1000 }
     ensures { OnOk result (queue.new.items ≡ []) }
 {
-    if let Some(token) = queue.token() {
-        if token.counts().dcs() != DCS || token.last() > 1000 || token.deferred() > 1000 {
-            return Err(StampFault::NoToken);
-        }
+    if !is_small(queue) {
+        return Err(StampFault::NoToken);
     }
     queue.stamp()
 }
@@ -169,7 +192,11 @@ fn a_chain_waits_for_its_first(rt: HostRuntime) -> Result<(), Fail> {
     let alloc = rt.alloc();
     let mut queue = holder(alloc, dc(0), 1)?;
     for back in 0..100 {
-        put(alloc, &mut queue, external(alloc, dc(1), 101 - back, [0, 0, 0])?)?;
+        put(
+            alloc,
+            &mut queue,
+            external(alloc, dc(1), 101 - back, [0, 0, 0])?,
+        )?;
     }
     assert_eq!(rt; stamp(&mut queue)?.len(), 0);
     assert_eq!(rt; deferred(&queue), 100);
@@ -177,7 +204,7 @@ fn a_chain_waits_for_its_first(rt: HostRuntime) -> Result<(), Fail> {
     let stamps = stamp(&mut queue)?;
     assert_eq!(rt; stamps.len(), 101);
     for (at, stamp) in stamps.iter().enumerate() {
-        assert_eq!(rt; stamp.place.toid, at as u64 + 1);
+        assert_eq!(rt; stamp.place.toid, (at as u64).saturating_add(1));
     }
     assert_eq!(rt; deferred(&queue), 0);
     Ok(())
@@ -188,7 +215,8 @@ fn the_token_goes_round(rt: HostRuntime) -> Result<(), Fail> {
     let alloc = rt.alloc();
     let mut first = holder(alloc, dc(0), 1)?;
     let mut second = Queue::new(alloc, 1, Epochs::first(alloc, 1, 1)?)?;
-    assert!(rt; matches!(second.stamp(), Err(StampFault::NoToken)));
+    let mut third = Queue::new(alloc, 2, Epochs::first(alloc, 1, 1)?)?;
+    assert!(rt; matches!(third.stamp(), Err(StampFault::NoToken)));
     assert_eq!(rt; first.token().map_or(9, |token| token.next_queue()), 0);
     let Some(token) = first.give() else {
         return Err(StampFault::NoToken.into());

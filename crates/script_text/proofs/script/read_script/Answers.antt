@@ -1,6 +1,10 @@
 use Rattle.script_text.specs.Lines.{lines}
+use Rattle.script_text.proofs.Laid.{all-spell}
 use Rattle.script_text.proofs.Sound.{all-fit}
 use Rattle.script_text.proofs.script.read_script.Goals as goal
 
 pub returns-clause-fits : goal.returns-clause-fits
 returns-clause-fits c = all-fit (lines c.args.bytes.now) c.read_lines.result c.read_lines.ensures.ok
+
+pub returns-clause-spelled : goal.returns-clause-spelled
+returns-clause-spelled c = all-spell (lines c.args.bytes.now) c.read_lines.result c.read_lines.ensures.ok

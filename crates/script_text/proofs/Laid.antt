@@ -1,0 +1,618 @@
+-- What has been said is what the lines so far write.
+use Rattle.std.proofs.Common.{◌≡◌, ◌<◌, ◌≤◌, ◌+◌, ◌-◌, ◌^◌, ℕ, List, [], ◌∷◌, ◌++◌, length, refl, ap, sym, subst, ◌∙◌, arith, Bool, true, false, cond, not, ◌&&◌, ◌||◌, nat_eq, ◌⊎◌, inl, inr, map, append_assoc, lit<, rules}
+use Rattle.std.specs.Prelude.{nat_le, nat_lt, Ok, Err, Result, Option, Some, None, is_none, drop, slice_index, IfOk, codes, bytes_eq}
+use Rattle.std.specs.List.{list_all, list_any, find, flat_map}
+use Rattle.std.specs.Fmt.{decimal}
+use Rattle.std.proofs.lemmas.Bool.Decides.{nat_tests}
+use Rattle.std.proofs.lemmas.Grind.{flat_map-append}
+use Rattle.std.proofs.lemmas.List.{map-append, append-nil}
+use Rattle.std.proofs.lemmas.Str.Parse.{IsNumeralModel, IsDigitsTest, numerals_by_value}
+use Rattle.std.proofs.lemmas.Fmt.{decimal-digits_value}
+use Rattle.std.proofs.lemmas.Slice.Eq.{bytes_eq-Decides}
+use Rattle.cz_base.specs.Text.{first_bad, is_body_byte}
+use Rattle.abstract_log.specs.declared.command.Command.{Command}
+use Rattle.abstract_log.specs.declared.command.Command.TheVariants as command
+use Rattle.abstract_log.specs.declared.command.SessionPlan.{SessionPlan}
+use Rattle.abstract_log.specs.declared.script.Script.{Script}
+use Rattle.abstract_log.specs.declared.script.Sizes.{Sizes}
+use Rattle.script_text.specs.declared.fault.Cause.{Cause}
+use Rattle.script_text.specs.declared.fault.Cause.TheVariants.{BadSpacing, AfterEnd}
+use Rattle.script_text.specs.declared.fault.ScriptFault.{ScriptFault}
+use Rattle.script_text.specs.declared.keyword.Keyword.{Keyword}
+use Rattle.script_text.specs.declared.keyword.Keyword.TheVariants.{Chariots, Datacentres, Round, Stages, Session, Command as CommandLine, Steps, Turn, End}
+use Rattle.script_text.specs.declared.keyword.CommandWord.{CommandWord}
+use Rattle.script_text.specs.declared.keyword.CommandWord.TheVariants.{Append, Put, Get, Tx, Read, Last}
+use Rattle.script_text.specs.declared.section.Section.{Section}
+use Rattle.script_text.specs.declared.section.Section.TheVariants as section
+use Rattle.script_text.specs.declared.progress.Progress.{Progress}
+use Rattle.script_text.specs.declared.progress.Stages.{Stages as StagesOf}
+use Rattle.script_text.specs.Words.{is_digit, is_number, number_of, is_datacentre, is_name, is_body, words, is_line_byte, is_empty_word}
+use Rattle.script_text.specs.Reading.{number_in, number_at, datacentre_at, body_in, body_at, names_in}
+use Rattle.script_text.specs.Keywords.{text_of, keywords, keyword_of, stands, is_built, least_words, most_words, is_start, is_datacentres, is_round, is_stages, is_sessions, is_steps, is_ended}
+use Rattle.script_text.specs.Meaning.{start, chariots_line, datacentres_line, round_line, sizes_at, stages_line, session_line, onto_last, with_command, append_line, read_line, command_meaning, meaning, keyword_after, words_after, is_passed_over, line_after, is_given, script_said, told, script_from, script_of}
+use Rattle.script_text.specs.Spelled.{letter, command_words, plan_lines, stages_words, first_words, datacentres_words, round_words, before_steps, steps_words, end_words, said_words, Spells}
+use Rattle.script_text.proofs.Sound.{IsSound, start-sound, line-sound, okay, okay-same, bind_ok, guard_ok, pass_ok, and_both, not_false, or_false, told_ok}
+
+-- Words.
+
+digits_test : IsDigitsTest (λ ds. list_all is_digit ds ≡ true)
+digits_test = search rules
+
+own : IsNumeralModel (λ ds. list_all is_digit ds ≡ true) number_of
+own = numerals_by_value (λ ds. list_all is_digit ds ≡ true) digits_test
+
+le_one : (n : ℕ) → nat_le n 1 ≡ true → n ≤ 1
+le_one n h = grind (arith, nat_tests)
+
+not_48 : (b : ℕ) → not (nat_eq b 48) ≡ true → b ≡ 48 → ⊥
+not_48 b h is = grind (arith, nat_tests)
+
+or_true : (a b : Bool) → (a || b) ≡ true → (a ≡ true) ⊎ (b ≡ true)
+or_true true b h = inl refl
+or_true false b h = inr h
+
+lone_zero : (n b : ℕ) → (nat_le n 1 || not (nat_eq b 48)) ≡ true → 1 ≤ n → b ≡ 48 → n ≡ 1
+lone_zero n b test some is =
+    elim (or_true (nat_le n 1) (not (nat_eq b 48)) test) [
+      | inl few ↦ omega (arith, le_one n few)
+      | inr other ↦ absurd (not_48 b other is)
+    ]
+
+-- a number word is what is written for its number
+number_word : (word : List ℕ) → is_number word ≡ true → number_of word < 2 ^ 64 → decimal (number_of word) ≡ word
+number_word word form small =
+    let last = and_both (list_all is_digit word && nat_le 1 (length word) && nat_le (length word) 10) (nat_le (length word) 1 || not (nat_eq (slice_index word 0) 48)) form in
+    let third = and_both (list_all is_digit word && nat_le 1 (length word)) (nat_le (length word) 10) last.0 in
+    let second = and_both (list_all is_digit word) (nat_le 1 (length word)) third.0 in
+    let some : 1 ≤ length word = grind (arith, nat_tests, second.1) in
+    let lone : slice_index word 0 ≡ 48 → length word ≡ 1 = λ h. lone_zero (length word) (slice_index word 0) last.1 some h in
+    decimal-digits_value own word second.0 (omega arith) lone small
+
+pub record SpellsNumber (least most : ℕ) (left : List (List ℕ)) (x : ℕ × List (List ℕ)) : Type 0 where
+  pub word : left ≡ decimal x.0 ∷ x.1
+  pub low : least ≤ x.0
+  pub high : x.0 ≤ most
+
+number_spells : (least most : ℕ) (left : List (List ℕ)) (x : ℕ × List (List ℕ)) → most < 2 ^ 64 → number_at least most left ≡ Ok x → SpellsNumber least most left x
+unfolding number_at
+number_spells least most [] x fits same = cc
+number_spells least most (word ∷ more) x fits same =
+    let bound = bind_ok (number_in least most word) (λ n. Ok (n, more)) x same in
+    let form = pass_ok (is_number word) _ _ bound.0 bound.1.0 in
+    let range = pass_ok (nat_le least (number_of word) && nat_le (number_of word) most) _ _ bound.0 form.1 in
+    let both = and_both (nat_le least (number_of word)) (nat_le (number_of word) most) range.0 in
+    let value : number_of word ≡ bound.0 = okay-same (number_of word) bound.0 range.1 in
+    let pair : (bound.0, more) ≡ x = okay-same (bound.0, more) x bound.1.1 in
+    let low : least ≤ number_of word = grind (arith, nat_tests, both.0) in
+    let high : number_of word ≤ most = grind (arith, nat_tests, both.1) in
+    let spelled = number_word word form.0 (omega arith) in
+    let made : SpellsNumber least most (word ∷ more) (bound.0, more) = record {
+      word = ap (λ (w : List ℕ). w ∷ more) (sym spelled ∙ ap (λ (n : ℕ). decimal n) value);
+      low = omega (arith, low, value);
+      high = omega (arith, high, value);
+    } in
+    subst (λ (p : ℕ × List (List ℕ)). SpellsNumber least most (word ∷ more) p) pair made
+
+letter_word : (dcs : ℕ) (word : List ℕ) → is_datacentre dcs word ≡ true → word ≡ letter (slice_index word 0 - 65)
+letter_word dcs [] h = cc
+letter_word dcs (b ∷ []) h =
+    let both = and_both (nat_le 65 b && nat_lt b (65 + dcs)) (nat_lt b 73) h in
+    let first = and_both (nat_le 65 b) (nat_lt b (65 + dcs)) both.0 in
+    let low : 65 ≤ b = grind (arith, nat_tests, first.0) in
+    let same : b ≡ 65 + (b - 65) = omega (arith, low) in
+    ap (λ (n : ℕ). n ∷ []) same
+letter_word dcs (b ∷ next ∷ more) h = cc
+
+datacentre_spells : (dcs : ℕ) (left : List (List ℕ)) (x : ℕ × List (List ℕ)) → datacentre_at dcs left ≡ Ok x → left ≡ letter x.0 ∷ x.1
+unfolding datacentre_at
+datacentre_spells dcs [] x same = cc
+datacentre_spells dcs (word ∷ more) x same =
+    let form = pass_ok (is_datacentre dcs word) _ _ x same in
+    let pair : (slice_index word 0 - 65, more) ≡ x = okay-same (slice_index word 0 - 65, more) x form.1 in
+    subst (λ (p : ℕ × List (List ℕ)). word ∷ more ≡ letter p.0 ∷ p.1) pair (ap (λ (w : List ℕ). w ∷ more) (letter_word dcs word form.0))
+
+body_word : (word : List ℕ) → is_body word ≡ true → word ≡ 61 ∷ drop 1 word
+body_word [] h = cc
+body_word (sign ∷ bytes) h =
+    let both = and_both ((nat_eq sign 61) && nat_le (length bytes) 1024) (is_none (first_bad is_body_byte bytes)) h in
+    let first = and_both (nat_eq sign 61) (nat_le (length bytes) 1024) both.0 in
+    let same : sign ≡ 61 = grind (arith, nat_tests, first.0) in
+    ap (λ (s : ℕ). s ∷ bytes) same
+
+body_spells : (left : List (List ℕ)) (x : List ℕ × List (List ℕ)) → body_at left ≡ Ok x → left ≡ (61 ∷ x.0) ∷ x.1
+unfolding body_at
+body_spells [] x same = cc
+body_spells (word ∷ more) x same =
+    let bound = bind_ok (body_in word) (λ body. Ok (body, more)) x same in
+    let form = pass_ok (is_body word) _ _ bound.0 bound.1.0 in
+    let value : drop 1 word ≡ bound.0 = okay-same (drop 1 word) bound.0 form.1 in
+    let pair : (bound.0, more) ≡ x = okay-same (bound.0, more) x bound.1.1 in
+    subst (λ (p : List ℕ × List (List ℕ)). word ∷ more ≡ (61 ∷ p.0) ∷ p.1) pair
+    (ap (λ (w : List ℕ). w ∷ more) (body_word word form.0 ∙ ap (λ (bytes : List ℕ). 61 ∷ bytes) value))
+
+names_spell : (left tags : List (List ℕ)) → names_in left ≡ Ok tags → left ≡ tags
+unfolding names_in
+names_spell left tags same =
+    let form = pass_ok (list_all is_name left) _ _ tags same in
+    okay-same left tags form.1
+
+none_left : (left : List (List ℕ)) → length left ≡ 0 → left ≡ []
+none_left [] none = refl
+none_left (word ∷ more) none = absurd (omega arith)
+
+-- a line of one number behind its first word
+one_number : (least most : ℕ) (left : List (List ℕ)) (x : ℕ × List (List ℕ)) → most < 2 ^ 64 → length left ≤ 1 → number_at least most left ≡ Ok x → left ≡ decimal x.0 ∷ []
+one_number least most left x fits few same =
+    let n = number_spells least most left x fits same in
+    let none : length x.1 ≡ 0 = omega (arith, ap (λ (ws : List (List ℕ)). length ws) n.word) in
+    n.word ∙ ap (λ (ws : List (List ℕ)). decimal x.0 ∷ ws) (none_left x.1 none)
+
+-- The keyword that was found is the word.
+
+some-same : (x y : Keyword) → Some x ≡ Some y → x ≡ y
+some-same x y same = cc
+
+find_passes : (test : Keyword → Bool) (all : List Keyword) (k : Keyword) → find test all ≡ Some k → test k ≡ true
+find_passes test [] k same = cc
+find_passes test (first ∷ more) k same =
+    elim (test first) as (λ v. (test first ≡ v) → cond v (Some first) (find test more) ≡ Some k → test k ≡ true) [
+      | true ↦ λ is chose. subst (λ (w : Keyword). test w ≡ true) (some-same first k chose) is
+      | false ↦ λ is chose. find_passes test more k chose
+    ] refl same
+
+keyword_text : (word : List ℕ) (k : Keyword) → keyword_of word ≡ Some k → word ≡ text_of k
+unfolding keyword_of
+keyword_text word k same =
+    let passes : bytes_eq (text_of k) word ≡ true = find_passes (λ keyword. bytes_eq (text_of keyword) word) keywords k same in
+    sym ((bytes_eq-Decides (text_of k) word).0 passes)
+
+-- What the lines so far write.
+
+abbrev pub so_far_at : Section → Progress → List (List (List ℕ))
+so_far_at section.Start said = []
+so_far_at section.Datacentres said = first_words ∷ []
+so_far_at section.Round said = first_words ∷ datacentres_words said.dcs ∷ []
+so_far_at section.Stages said = before_steps said.dcs said.round said.stages said.sessions
+so_far_at section.Sessions said = before_steps said.dcs said.round said.stages said.sessions
+so_far_at section.Steps said = before_steps said.dcs said.round said.stages said.sessions ++ steps_words ∷ []
+so_far_at section.Ended said = before_steps said.dcs said.round said.stages said.sessions ++ steps_words ∷ end_words ∷ []
+
+-- no `stages` line stands before its part, and no session
+abbrev pub laid_at : Section → Progress → Type 0
+laid_at section.Start said = (said.stages ≡ []) × (said.sessions ≡ [])
+laid_at section.Datacentres said = (said.stages ≡ []) × (said.sessions ≡ [])
+laid_at section.Round said = (said.stages ≡ []) × (said.sessions ≡ [])
+laid_at section.Stages said = said.sessions ≡ []
+laid_at section.Sessions said = Unit {0}
+laid_at section.Steps said = Unit {0}
+laid_at section.Ended said = Unit {0}
+
+-- a line that is not passed over adds its words
+pub record Lays (said after : Progress) (line : List (List ℕ)) : Type 0 where
+  pub laid : laid_at after.section after
+  pub more : so_far_at after.section after ≡ so_far_at said.section said ++ line ∷ []
+
+-- the sections
+
+at-start : (here : Section) → is_start here ≡ true → here ≡ section.Start
+at-start section.Start h = refl
+at-start section.Datacentres h = cc
+at-start section.Round h = cc
+at-start section.Stages h = cc
+at-start section.Sessions h = cc
+at-start section.Steps h = cc
+at-start section.Ended h = cc
+
+at-datacentres : (here : Section) → is_datacentres here ≡ true → here ≡ section.Datacentres
+at-datacentres section.Start h = cc
+at-datacentres section.Datacentres h = refl
+at-datacentres section.Round h = cc
+at-datacentres section.Stages h = cc
+at-datacentres section.Sessions h = cc
+at-datacentres section.Steps h = cc
+at-datacentres section.Ended h = cc
+
+at-round : (here : Section) → is_round here ≡ true → here ≡ section.Round
+at-round section.Start h = cc
+at-round section.Datacentres h = cc
+at-round section.Round h = refl
+at-round section.Stages h = cc
+at-round section.Sessions h = cc
+at-round section.Steps h = cc
+at-round section.Ended h = cc
+
+at-stages : (here : Section) → is_stages here ≡ true → here ≡ section.Stages
+at-stages section.Start h = cc
+at-stages section.Datacentres h = cc
+at-stages section.Round h = cc
+at-stages section.Stages h = refl
+at-stages section.Sessions h = cc
+at-stages section.Steps h = cc
+at-stages section.Ended h = cc
+
+at-sessions : (here : Section) → is_sessions here ≡ true → here ≡ section.Sessions
+at-sessions section.Start h = cc
+at-sessions section.Datacentres h = cc
+at-sessions section.Round h = cc
+at-sessions section.Stages h = cc
+at-sessions section.Sessions h = refl
+at-sessions section.Steps h = cc
+at-sessions section.Ended h = cc
+
+at-either : (here : Section) → (is_stages here || is_sessions here) ≡ true → (here ≡ section.Stages) ⊎ (here ≡ section.Sessions)
+at-either section.Start h = cc
+at-either section.Datacentres h = cc
+at-either section.Round h = cc
+at-either section.Stages h = inl refl
+at-either section.Sessions h = inr refl
+at-either section.Steps h = cc
+at-either section.Ended h = cc
+
+at-steps : (here : Section) → is_steps here ≡ true → here ≡ section.Steps
+at-steps section.Start h = cc
+at-steps section.Datacentres h = cc
+at-steps section.Round h = cc
+at-steps section.Stages h = cc
+at-steps section.Sessions h = cc
+at-steps section.Steps h = refl
+at-steps section.Ended h = cc
+
+at-ended : (here : Section) → is_ended here ≡ true → here ≡ section.Ended
+at-ended section.Start h = cc
+at-ended section.Datacentres h = cc
+at-ended section.Round h = cc
+at-ended section.Stages h = cc
+at-ended section.Sessions h = cc
+at-ended section.Steps h = cc
+at-ended section.Ended h = refl
+
+-- What stands before `steps`, grown by one line.
+
+empty-before : (dcs round : ℕ) (stages : List StagesOf) (plans : List SessionPlan) → stages ≡ [] → plans ≡ []
+    → before_steps dcs round stages plans ≡ first_words ∷ datacentres_words dcs ∷ round_words round ∷ []
+unfolding before_steps
+empty-before dcs round stages plans none nobody = rw (none, nobody) refl
+
+stages-list : (stages : List StagesOf) (given : StagesOf) (later : List (List (List ℕ))) → later ≡ []
+    → map stages_words (stages ++ given ∷ []) ++ later ≡ (map stages_words stages ++ later) ++ stages_words given ∷ []
+stages-list stages given later none =
+    subst (λ (ls : List (List (List ℕ))). map stages_words (stages ++ given ∷ []) ++ ls ≡ (map stages_words stages ++ ls) ++ stages_words given ∷ []) (sym none)
+    (append-nil (map stages_words (stages ++ given ∷ [])) ∙ map-append stages_words stages (given ∷ [])
+    ∙ ap (λ (ls : List (List (List ℕ))). ls ++ stages_words given ∷ []) (sym (append-nil (map stages_words stages))))
+
+stages-before : (dcs round : ℕ) (stages : List StagesOf) (given : StagesOf) (plans : List SessionPlan) → plans ≡ []
+    → before_steps dcs round (stages ++ given ∷ []) plans ≡ before_steps dcs round stages plans ++ stages_words given ∷ []
+unfolding before_steps
+stages-before dcs round stages given plans nobody =
+    ap (λ (ls : List (List (List ℕ))). first_words ∷ datacentres_words dcs ∷ round_words round ∷ ls)
+    (stages-list stages given (flat_map plan_lines plans) (ap (λ (ps : List SessionPlan). flat_map plan_lines ps) nobody))
+
+sessions-before : (dcs round : ℕ) (stages : List StagesOf) (plans : List SessionPlan) (home : ℕ)
+    → before_steps dcs round stages (plans ++ record { home = home; commands = [] } ∷ []) ≡ before_steps dcs round stages plans ++ (codes "session" ∷ letter home ∷ []) ∷ []
+unfolding before_steps
+sessions-before dcs round stages plans home = simp (flat_map-append, append_assoc) refl
+
+onto_last-lines : (plans : List SessionPlan) (c : Command) → 0 < length plans → flat_map plan_lines (onto_last plans c) ≡ flat_map plan_lines plans ++ command_words c ∷ []
+onto_last-lines [] c some = absurd (omega arith)
+onto_last-lines (plan ∷ []) c some =
+    append-nil ((codes "session" ∷ letter plan.home ∷ []) ∷ map command_words (plan.commands ++ c ∷ []))
+    ∙ ap (λ (ls : List (List (List ℕ))). (codes "session" ∷ letter plan.home ∷ []) ∷ ls) (map-append command_words plan.commands (c ∷ []))
+    ∙ ap (λ (ls : List (List (List ℕ))). ls ++ command_words c ∷ []) (sym (append-nil (plan_lines plan)))
+onto_last-lines (plan ∷ next ∷ more) c some =
+    ap (λ (ls : List (List (List ℕ))). plan_lines plan ++ ls) (onto_last-lines (next ∷ more) c (omega arith)) ∙ sym (append_assoc (plan_lines plan) (flat_map plan_lines (next ∷ more)) (command_words c ∷ []))
+
+commands-before : (dcs round : ℕ) (stages : List StagesOf) (plans : List SessionPlan) (c : Command) → 0 < length plans
+    → before_steps dcs round stages (onto_last plans c) ≡ before_steps dcs round stages plans ++ command_words c ∷ []
+unfolding before_steps
+commands-before dcs round stages plans c some =
+    ap (λ (ls : List (List (List ℕ))). first_words ∷ datacentres_words dcs ∷ round_words round ∷ (map stages_words stages ++ ls)) (onto_last-lines plans c some)
+    ∙ ap (λ (ls : List (List (List ℕ))). first_words ∷ datacentres_words dcs ∷ round_words round ∷ ls) (sym (append_assoc (map stages_words stages) (flat_map plan_lines plans) (command_words c ∷ [])))
+
+-- The lines.
+
+chariots-lays : (said after : Progress) (left : List (List ℕ)) → said.section ≡ section.Start → laid_at said.section said → length left ≤ 1 → chariots_line said left ≡ Ok after
+    → Lays said after (codes "chariots" ∷ left)
+unfolding chariots_line
+chariots-lays said after left here laid few same =
+    let read = bind_ok (number_at 1 1 left) _ after same in
+    let n = number_spells 1 1 left read.0 (lit< tt) read.1.0 in
+    let alone = one_number 1 1 left read.0 (lit< tt) few read.1.0 in
+    let one : read.0.0 ≡ 1 = omega (arith, n.low, n.high) in
+    let is : record said { section = section.Datacentres } ≡ after = okay-same (record said { section = section.Datacentres }) after read.1.1 in
+    let none : (said.stages ≡ []) × (said.sessions ≡ []) = subst (λ (s : Section). laid_at s said) here laid in
+    let before : so_far_at said.section said ≡ [] = ap (λ (s : Section). so_far_at s said) here in
+    let written : first_words ≡ codes "chariots" ∷ left = ap (λ (k : ℕ). codes "chariots" ∷ decimal k ∷ []) (sym one) ∙ ap (λ (ws : List (List ℕ)). codes "chariots" ∷ ws) (sym alone) in
+    let made : Lays said (record said { section = section.Datacentres }) (codes "chariots" ∷ left) = record {
+      laid = none;
+      more = ap (λ (l : List (List ℕ)). l ∷ []) written ∙ ap (λ (ls : List (List (List ℕ))). ls ++ (codes "chariots" ∷ left) ∷ []) (sym before);
+    } in
+    subst (λ (p : Progress). Lays said p (codes "chariots" ∷ left)) is made
+
+datacentres-lays : (said after : Progress) (left : List (List ℕ)) → said.section ≡ section.Datacentres → laid_at said.section said → length left ≤ 1 → datacentres_line said left ≡ Ok after
+    → Lays said after (codes "datacentres" ∷ left)
+unfolding datacentres_line
+datacentres-lays said after left here laid few same =
+    let read = bind_ok (number_at 1 1 left) _ after same in
+    let alone = one_number 1 1 left read.0 (lit< tt) few read.1.0 in
+    let is : record said { dcs = read.0.0; section = section.Round } ≡ after = okay-same (record said { dcs = read.0.0; section = section.Round }) after read.1.1 in
+    let none : (said.stages ≡ []) × (said.sessions ≡ []) = subst (λ (s : Section). laid_at s said) here laid in
+    let before : so_far_at said.section said ≡ first_words ∷ [] = ap (λ (s : Section). so_far_at s said) here in
+    let written : datacentres_words read.0.0 ≡ codes "datacentres" ∷ left = ap (λ (ws : List (List ℕ)). codes "datacentres" ∷ ws) (sym alone) in
+    let made : Lays said (record said { dcs = read.0.0; section = section.Round }) (codes "datacentres" ∷ left) = record {
+      laid = none;
+      more = ap (λ (l : List (List ℕ)). first_words ∷ l ∷ []) written ∙ ap (λ (ls : List (List (List ℕ))). ls ++ (codes "datacentres" ∷ left) ∷ []) (sym before);
+    } in
+    subst (λ (p : Progress). Lays said p (codes "datacentres" ∷ left)) is made
+
+round-lays : (said after : Progress) (left : List (List ℕ)) → said.section ≡ section.Round → laid_at said.section said → length left ≤ 1 → round_line said left ≡ Ok after
+    → Lays said after (codes "round" ∷ left)
+unfolding round_line
+round-lays said after left here laid few same =
+    let read = bind_ok (number_at 1 1024 left) _ after same in
+    let alone = one_number 1 1024 left read.0 (lit< tt) few read.1.0 in
+    let is : record said { round = read.0.0; section = section.Stages } ≡ after = okay-same (record said { round = read.0.0; section = section.Stages }) after read.1.1 in
+    let none : (said.stages ≡ []) × (said.sessions ≡ []) = subst (λ (s : Section). laid_at s said) here laid in
+    let before : so_far_at said.section said ≡ first_words ∷ datacentres_words said.dcs ∷ [] = ap (λ (s : Section). so_far_at s said) here in
+    let written : round_words read.0.0 ≡ codes "round" ∷ left = ap (λ (ws : List (List ℕ)). codes "round" ∷ ws) (sym alone) in
+    let made : Lays said (record said { round = read.0.0; section = section.Stages }) (codes "round" ∷ left) = record {
+      laid = none.1;
+      more = empty-before said.dcs read.0.0 said.stages said.sessions none.0 none.1
+          ∙ ap (λ (l : List (List ℕ)). first_words ∷ datacentres_words said.dcs ∷ l ∷ []) written ∙ ap (λ (ls : List (List (List ℕ))). ls ++ (codes "round" ∷ left) ∷ []) (sym before);
+    } in
+    subst (λ (p : Progress). Lays said p (codes "round" ∷ left)) is made
+
+-- the seven numbers of a `stages` line
+sizes_spell : (left : List (List ℕ)) (x : Sizes × List (List ℕ)) → sizes_at left ≡ Ok x
+    → left ≡ decimal x.0.batchers ∷ decimal x.0.filters ∷ decimal x.0.queues ∷ decimal x.0.maintainers ∷ decimal x.0.indexers ∷ decimal x.0.senders ∷ decimal x.0.receivers ∷ x.1
+unfolding sizes_at
+sizes_spell left x same =
+    let one = bind_ok (number_at 1 1 left) _ x same in
+    let two = bind_ok (number_at 1 1 one.0.1) _ x one.1.1 in
+    let three = bind_ok (number_at 1 1 two.0.1) _ x two.1.1 in
+    let four = bind_ok (number_at 1 16 three.0.1) _ x three.1.1 in
+    let five = bind_ok (number_at 1 1 four.0.1) _ x four.1.1 in
+    let six = bind_ok (number_at 1 1 five.0.1) _ x five.1.1 in
+    let seven = bind_ok (number_at 1 1 six.0.1) _ x six.1.1 in
+    let a = (number_spells 1 1 left one.0 (lit< tt) one.1.0).word in
+    let b = (number_spells 1 1 one.0.1 two.0 (lit< tt) two.1.0).word in
+    let c = (number_spells 1 1 two.0.1 three.0 (lit< tt) three.1.0).word in
+    let d = (number_spells 1 16 three.0.1 four.0 (lit< tt) four.1.0).word in
+    let e = (number_spells 1 1 four.0.1 five.0 (lit< tt) five.1.0).word in
+    let f = (number_spells 1 1 five.0.1 six.0 (lit< tt) six.1.0).word in
+    let g = (number_spells 1 1 six.0.1 seven.0 (lit< tt) seven.1.0).word in
+    let made : Sizes = record { batchers = one.0.0; filters = two.0.0; queues = three.0.0; maintainers = four.0.0; indexers = five.0.0; senders = six.0.0; receivers = seven.0.0 } in
+    let pair : (made, seven.0.1) ≡ x = okay-same (made, seven.0.1) x seven.1.1 in
+    let all = a ∙ ap (λ (ws : List (List ℕ)). decimal one.0.0 ∷ ws)
+    (b ∙ ap (λ (ws : List (List ℕ)). decimal two.0.0 ∷ ws)
+    (c ∙ ap (λ (ws : List (List ℕ)). decimal three.0.0 ∷ ws)
+    (d ∙ ap (λ (ws : List (List ℕ)). decimal four.0.0 ∷ ws)
+    (e ∙ ap (λ (ws : List (List ℕ)). decimal five.0.0 ∷ ws)
+    (f ∙ ap (λ (ws : List (List ℕ)). decimal six.0.0 ∷ ws) g))))) in
+    subst (λ (p : Sizes × List (List ℕ)). left ≡ decimal p.0.batchers ∷ decimal p.0.filters ∷ decimal p.0.queues ∷ decimal p.0.maintainers ∷ decimal p.0.indexers ∷ decimal p.0.senders ∷ decimal p.0.receivers ∷ p.1) pair all
+
+stages-lays : (said after : Progress) (left : List (List ℕ)) → said.section ≡ section.Stages → laid_at said.section said → length left ≤ 8 → stages_line said left ≡ Ok after
+    → Lays said after (codes "stages" ∷ left)
+unfolding stages_line
+stages-lays said after left here laid few same =
+    let dc = bind_ok (datacentre_at said.dcs left) _ after same in
+    let sizes = bind_ok (sizes_at dc.0.1) _ after dc.1.1 in
+    let new = guard_ok (is_given said.stages dc.0.0) _ _ after sizes.1.1 in
+    let given : StagesOf = record { dc = dc.0.0; sizes = sizes.0.0 } in
+    let next : Progress = record said { stages = said.stages ++ given ∷ [] } in
+    let is : next ≡ after = okay-same next after new.1 in
+    let nobody : said.sessions ≡ [] = subst (λ (s : Section). laid_at s said) here laid in
+    let first = datacentre_spells said.dcs left dc.0 dc.1.0 in
+    let numbers = sizes_spell dc.0.1 sizes.0 sizes.1.0 in
+    let none : length sizes.0.1 ≡ 0 = omega (arith, ap (λ (ws : List (List ℕ)). length ws) first, ap (λ (ws : List (List ℕ)). length ws) numbers, few) in
+    let whole : left ≡ letter dc.0.0 ∷ decimal sizes.0.0.batchers ∷ decimal sizes.0.0.filters ∷ decimal sizes.0.0.queues ∷ decimal sizes.0.0.maintainers ∷ decimal sizes.0.0.indexers ∷ decimal sizes.0.0.senders ∷ decimal sizes.0.0.receivers ∷ []
+    = first ∙ ap (λ (ws : List (List ℕ)). letter dc.0.0 ∷ ws) numbers
+    ∙ ap (λ (ws : List (List ℕ)). letter dc.0.0 ∷ decimal sizes.0.0.batchers ∷ decimal sizes.0.0.filters ∷ decimal sizes.0.0.queues ∷ decimal sizes.0.0.maintainers ∷ decimal sizes.0.0.indexers ∷ decimal sizes.0.0.senders ∷ decimal sizes.0.0.receivers ∷ ws) (none_left sizes.0.1 none) in
+    let written : stages_words given ≡ codes "stages" ∷ left = ap (λ (ws : List (List ℕ)). codes "stages" ∷ ws) (sym whole) in
+    let before : so_far_at said.section said ≡ before_steps said.dcs said.round said.stages said.sessions = ap (λ (s : Section). so_far_at s said) here in
+    let now : so_far_at said.section next ≡ before_steps said.dcs said.round (said.stages ++ given ∷ []) said.sessions = ap (λ (s : Section). so_far_at s next) here in
+    let made : Lays said next (codes "stages" ∷ left) = record {
+      laid = subst (λ (s : Section). laid_at s next) (sym here) nobody;
+      more = now ∙ stages-before said.dcs said.round said.stages given said.sessions nobody
+          ∙ ap (λ (l : List (List ℕ)). before_steps said.dcs said.round said.stages said.sessions ++ l ∷ []) written
+          ∙ ap (λ (ls : List (List (List ℕ))). ls ++ (codes "stages" ∷ left) ∷ []) (sym before);
+    } in
+    subst (λ (p : Progress). Lays said p (codes "stages" ∷ left)) is made
+
+either-before : (said : Progress) → (said.section ≡ section.Stages) ⊎ (said.section ≡ section.Sessions) → so_far_at said.section said ≡ before_steps said.dcs said.round said.stages said.sessions
+either-before said here = elim here [
+  | inl is ↦ ap (λ (s : Section). so_far_at s said) is
+  | inr is ↦ ap (λ (s : Section). so_far_at s said) is
+]
+
+session-lays : (said after : Progress) (left : List (List ℕ)) → (said.section ≡ section.Stages) ⊎ (said.section ≡ section.Sessions) → length left ≤ 1 → session_line said left ≡ Ok after
+    → Lays said after (codes "session" ∷ left)
+unfolding session_line
+session-lays said after left here few same =
+    let home = bind_ok (datacentre_at said.dcs left) _ after same in
+    let room = guard_ok (nat_eq (length said.sessions) 64) _ _ after home.1.1 in
+    let plan : SessionPlan = record { home = home.0.0; commands = [] } in
+    let next : Progress = record said { sessions = said.sessions ++ plan ∷ []; section = section.Sessions } in
+    let is : next ≡ after = okay-same next after room.1 in
+    let first = datacentre_spells said.dcs left home.0 home.1.0 in
+    let none : length home.0.1 ≡ 0 = omega (arith, ap (λ (ws : List (List ℕ)). length ws) first, few) in
+    let whole : left ≡ letter home.0.0 ∷ [] = first ∙ ap (λ (ws : List (List ℕ)). letter home.0.0 ∷ ws) (none_left home.0.1 none) in
+    let made : Lays said next (codes "session" ∷ left) = record {
+      laid = tt;
+      more = sessions-before said.dcs said.round said.stages said.sessions home.0.0
+          ∙ ap (λ (ws : List (List ℕ)). before_steps said.dcs said.round said.stages said.sessions ++ (codes "session" ∷ ws) ∷ []) (sym whole)
+          ∙ ap (λ (ls : List (List (List ℕ))). ls ++ (codes "session" ∷ left) ∷ []) (sym (either-before said here));
+    } in
+    subst (λ (p : Progress). Lays said p (codes "session" ∷ left)) is made
+
+command-lays : (said after : Progress) (c : Command) (line : List (List ℕ)) → said.section ≡ section.Sessions → line ≡ command_words c → with_command said c ≡ Ok after → Lays said after line
+unfolding with_command
+command-lays said after c line here spelled same =
+    let room = guard_ok (nat_le 16384 said.commands) _ _ after same in
+    let begun = guard_ok (nat_eq (length said.sessions) 0) _ _ after room.1 in
+    let next : Progress = record said { sessions = onto_last said.sessions c; commands = said.commands + 1 } in
+    let is : next ≡ after = okay-same next after begun.1 in
+    let some : 0 < length said.sessions = grind (arith, nat_tests, begun.0) in
+    let now : so_far_at said.section next ≡ before_steps said.dcs said.round said.stages (onto_last said.sessions c) = ap (λ (s : Section). so_far_at s next) here in
+    let made : Lays said next line = record {
+      laid = subst (λ (s : Section). laid_at s next) (sym here) tt;
+      more = now ∙ commands-before said.dcs said.round said.stages said.sessions c some
+          ∙ ap (λ (l : List (List ℕ)). before_steps said.dcs said.round said.stages said.sessions ++ l ∷ []) (sym spelled)
+          ∙ ap (λ (ls : List (List (List ℕ))). ls ++ line ∷ []) (sym (either-before said (inr here)));
+    } in
+    subst (λ (p : Progress). Lays said p line) is made
+
+append-lays : (said after : Progress) (left : List (List ℕ)) → said.section ≡ section.Sessions → append_line said left ≡ Ok after → Lays said after (codes "append" ∷ left)
+unfolding append_line
+append-lays said after left here same =
+    let body = bind_ok (body_at left) _ after same in
+    let tags = bind_ok (names_in body.0.1) _ after body.1.1 in
+    let first = body_spells left body.0 body.1.0 in
+    let rest = names_spell body.0.1 tags.0 tags.1.0 in
+    let spelled : codes "append" ∷ left ≡ command_words (command.Append tags.0 body.0.0)
+    = ap (λ (ws : List (List ℕ)). codes "append" ∷ ws) (first ∙ ap (λ (ws : List (List ℕ)). (61 ∷ body.0.0) ∷ ws) rest) in
+    command-lays said after (command.Append tags.0 body.0.0) (codes "append" ∷ left) here spelled tags.1.1
+
+read-lays : (said after : Progress) (left : List (List ℕ)) → said.section ≡ section.Sessions → length left ≤ 1 → read_line said left ≡ Ok after → Lays said after (codes "read" ∷ left)
+unfolding read_line
+read-lays said after left here few same =
+    let lid = bind_ok (number_at 1 4294967295 left) _ after same in
+    let alone = one_number 1 4294967295 left lid.0 (lit< tt) few lid.1.0 in
+    command-lays said after (command.Read lid.0.0) (codes "read" ∷ left) here (ap (λ (ws : List (List ℕ)). codes "read" ∷ ws) alone) lid.1.1
+
+command_line-lays : (said after : Progress) (word : CommandWord) (left : List (List ℕ)) → said.section ≡ section.Sessions → length left ≤ most_words (CommandLine word) → command_meaning said word left ≡ Ok after
+    → Lays said after (text_of (CommandLine word) ∷ left)
+unfolding text_of
+command_line-lays said after Append left here few same = append-lays said after left here same
+command_line-lays said after Put left here few same = cc
+command_line-lays said after Get left here few same = cc
+command_line-lays said after Tx left here few same = cc
+command_line-lays said after Read left here few same = read-lays said after left here few same
+command_line-lays said after Last left here few same = cc
+
+steps-lays : (said after : Progress) (left : List (List ℕ)) → (said.section ≡ section.Stages) ⊎ (said.section ≡ section.Sessions) → length left ≤ 0 → okay (record said { section = section.Steps }) ≡ okay after
+    → Lays said after (codes "steps" ∷ left)
+steps-lays said after left here few same =
+    let is : record said { section = section.Steps } ≡ after = okay-same (record said { section = section.Steps }) after same in
+    let alone = none_left left (omega arith) in
+    let made : Lays said (record said { section = section.Steps }) (codes "steps" ∷ left) = record {
+      laid = tt;
+      more = ap (λ (ws : List (List ℕ)). before_steps said.dcs said.round said.stages said.sessions ++ (codes "steps" ∷ ws) ∷ []) (sym alone)
+          ∙ ap (λ (ls : List (List (List ℕ))). ls ++ (codes "steps" ∷ left) ∷ []) (sym (either-before said here));
+    } in
+    subst (λ (p : Progress). Lays said p (codes "steps" ∷ left)) is made
+
+end-lays : (said after : Progress) (left : List (List ℕ)) → said.section ≡ section.Steps → length left ≤ 0 → okay (record said { section = section.Ended }) ≡ okay after
+    → Lays said after (codes "end" ∷ left)
+end-lays said after left here few same =
+    let is : record said { section = section.Ended } ≡ after = okay-same (record said { section = section.Ended }) after same in
+    let alone = none_left left (omega arith) in
+    let all : List (List (List ℕ)) = before_steps said.dcs said.round said.stages said.sessions in
+    let before : so_far_at said.section said ≡ all ++ steps_words ∷ [] = ap (λ (s : Section). so_far_at s said) here in
+    let made : Lays said (record said { section = section.Ended }) (codes "end" ∷ left) = record {
+      laid = tt;
+      more = sym (append_assoc all (steps_words ∷ []) (end_words ∷ []))
+          ∙ ap (λ (ws : List (List ℕ)). (all ++ steps_words ∷ []) ++ (codes "end" ∷ ws) ∷ []) (sym alone)
+          ∙ ap (λ (ls : List (List (List ℕ))). ls ++ (codes "end" ∷ left) ∷ []) (sym before);
+    } in
+    subst (λ (p : Progress). Lays said p (codes "end" ∷ left)) is made
+
+meaning-lays : (said after : Progress) (keyword : Keyword) (left : List (List ℕ)) → stands keyword said.section ≡ true → length left ≤ most_words keyword → laid_at said.section said → meaning said keyword left ≡ Ok after
+    → Lays said after (text_of keyword ∷ left)
+unfolding text_of
+meaning-lays said after Chariots left here few laid same = chariots-lays said after left (at-start said.section here) laid few same
+meaning-lays said after Datacentres left here few laid same = datacentres-lays said after left (at-datacentres said.section here) laid few same
+meaning-lays said after Round left here few laid same = round-lays said after left (at-round said.section here) laid few same
+meaning-lays said after Stages left here few laid same = stages-lays said after left (at-stages said.section here) laid few same
+meaning-lays said after Session left here few laid same = session-lays said after left (at-either said.section here) few same
+meaning-lays said after (CommandLine word) left here few laid same = command_line-lays said after word left (at-sessions said.section here) few same
+meaning-lays said after Steps left here few laid same = steps-lays said after left (at-either said.section here) few same
+meaning-lays said after (Turn word) left here few laid same = cc
+meaning-lays said after End left here few laid same = end-lays said after left (at-steps said.section here) few same
+
+keyword-lays : (said after : Progress) (first : List ℕ) (keyword : Option Keyword) (left : List (List ℕ)) → keyword_of first ≡ keyword → laid_at said.section said → keyword_after said keyword left ≡ Ok after
+    → Lays said after (first ∷ left)
+keyword-lays said after first None left spelled laid same = cc
+keyword-lays said after first (Some keyword) left spelled laid same =
+    let place = guard_ok (not (stands keyword said.section)) _ _ after same in
+    let built = guard_ok (not (is_built keyword)) _ _ after place.1 in
+    let count = guard_ok (nat_lt (length left) (least_words keyword) || nat_lt (most_words keyword) (length left)) _ _ after built.1 in
+    let most = or_false (nat_lt (length left) (least_words keyword)) (nat_lt (most_words keyword) (length left)) count.0 in
+    let few : length left ≤ most_words keyword = grind (arith, nat_tests, most.1) in
+    subst (λ (word : List ℕ). Lays said after (word ∷ left)) (sym (keyword_text first keyword spelled))
+    (meaning-lays said after keyword left (not_false (stands keyword said.section) place.0) few laid count.1)
+
+words-lay : (said after : Progress) (line : List (List ℕ)) → laid_at said.section said → words_after said line ≡ Ok after → Lays said after line
+unfolding words_after
+words-lay said after [] laid same = cc
+words-lay said after (first ∷ more) laid same = keyword-lays said after first (keyword_of first) more refl laid same
+
+-- what a whole line adds
+adds_of : (said after : Progress) (line : List (List ℕ)) (over : Bool) (rest : Result Progress Cause) → laid_at said.section said → (rest ≡ okay after → Lays said after line) → cond over (okay said) rest ≡ okay after
+    → laid_at after.section after × (so_far_at after.section after ≡ so_far_at said.section said ++ cond over [] (line ∷ []))
+adds_of said after line true rest laid lays same =
+    subst (λ (p : Progress). laid_at p.section p × (so_far_at p.section p ≡ so_far_at said.section said ++ [])) (okay-same said after same) (laid, sym (append-nil (so_far_at said.section said)))
+adds_of said after line false rest laid lays same = ((lays same).laid, (lays same).more)
+
+line-adds : (said after : Progress) (line : List ℕ) → laid_at said.section said → line_after said line ≡ Ok after
+    → laid_at after.section after × (so_far_at after.section after ≡ so_far_at said.section said ++ cond (is_passed_over line) [] (words line ∷ []))
+unfolding line_after
+line-adds said after line laid same =
+    let bytes = guard_ok (not (list_all is_line_byte line)) _ _ after same in
+    let rest : Result Progress Cause = cond (list_any is_empty_word (words line)) (Err BadSpacing) (cond (is_ended said.section) (Err AfterEnd) (words_after said (words line))) in
+    adds_of said after (words line) (is_passed_over line) rest laid
+    (λ (on : rest ≡ okay after).
+    let spaced = guard_ok (list_any is_empty_word (words line)) _ _ after on in
+    let going = guard_ok (is_ended said.section) _ _ after spaced.1 in
+    words-lay said after (words line) laid going.1)
+    bytes.1
+
+joined : (over : Bool) (line : List (List ℕ)) (more : List (List (List ℕ))) → cond over [] (line ∷ []) ++ more ≡ cond over more (line ∷ more)
+joined true line more = refl
+joined false line more = refl
+
+-- what is said at the end, and what its lines write
+pub record Ends (said : Progress) (left : List (List ℕ)) (script : Script) : Type 0 where
+  pub at_end : Progress
+  pub is : script_said at_end ≡ script
+  pub steps : at_end.steps ≡ []
+  pub more : so_far_at section.Ended at_end ≡ so_far_at said.section said ++ said_words left
+
+script_from-ends : (said : Progress) (number : ℕ) (left : List (List ℕ)) (script : Script) → laid_at said.section said → IsSound said → script_from said number left ≡ Ok script → Ends said left script
+script_from-ends said number [] script laid sound same =
+    let ended = pass_ok (is_ended said.section) _ _ script same in
+    record {
+      at_end = said;
+      is = cc (ended.1);
+      steps = sound.steps;
+      more = ap (λ (s : Section). so_far_at s said) (sym (at-ended said.section ended.0)) ∙ sym (append-nil (so_far_at said.section said));
+    }
+script_from-ends said number (line ∷ more) script laid sound same =
+    let step = bind_ok (told number (line_after said line)) (λ after. script_from after (number + 1) more) script same in
+    let on = told_ok number (line_after said line) step.0 step.1.0 in
+    let adds = line-adds said step.0 line laid on in
+    let ends = script_from-ends step.0 (number + 1) more script adds.0 (line-sound said step.0 line sound on) step.1.1 in
+    let here : List (List (List ℕ)) = so_far_at said.section said in
+    let grown = ap (λ (ls : List (List (List ℕ))). ls ++ said_words more) adds.1 in
+    record {
+      at_end = ends.at_end;
+      is = ends.is;
+      steps = ends.steps;
+      more = ends.more ∙ grown ∙ append_assoc here (cond (is_passed_over line) [] (words line ∷ [])) (said_words more)
+          ∙ ap (λ (ls : List (List (List ℕ))). here ++ ls) (joined (is_passed_over line) (words line) (said_words more));
+    }
+
+-- lines from which a script is read are its lines
+pub script_of-spells : (lines : List (List ℕ)) (script : Script) → script_of lines ≡ Ok script → Spells script lines
+script_of-spells lines script same =
+    let ends = script_from-ends start 1 lines script (refl, refl) start-sound same in
+    let spelled : Spells (script_said ends.at_end) lines = record {
+      stages = ends.at_end.stages;
+      sizes = refl;
+      steps = ends.steps;
+      written = sym ends.more;
+    } in
+    subst (λ (s : Script). Spells s lines) ends.is spelled
+
+pub all-spell : (lines : List (List ℕ)) (result : Result Script ScriptFault) → IfOk result (λ script. script_of lines ≡ Ok script) → IfOk result (λ script. Spells script lines)
+all-spell lines (Ok script) same = script_of-spells lines script same
+all-spell lines (Err fault) same = tt
