@@ -1,11 +1,8 @@
 -- How far bytes go on as the words of parts that stand one after the other.
-use Rattle.std.proofs.Common.{◌≡◌, ℕ, zero, suc, ◌+◌, ◌<◌, ◌≤◌, ◌^◌, ◌⊎◌, List, [], ◌∷◌, ◌++◌, length, refl, ap, ap₂, sym, ◌∙◌, subst, inl, inr, arith, append_assoc, append-nil}
+use Rattle.std.proofs.Common.{◌≡◌, ℕ, ◌+◌, ◌<◌, ◌≤◌, List, ◌++◌, length, refl, ap, sym, ◌∙◌, subst, inl, inr, arith}
 use Rattle.std.proofs.lemmas.List.{length-append}
-use Rattle.std.specs.List.{flat_map}
-use Rattle.byteorder.specs.Endian.{big_bytes}
-use Rattle.record_codec.specs.Parts.{shared, Differ, Misses, IsWord, IsCode, Both, joined, IsWithin, AreEach, IsSized, sized}
-use Rattle.record_codec.proofs.Shared.{shared-front, shared-append_left, shared-append_right, shared-both, shared_le_left, shared_comm, Differ-append, Differ-front}
-use Rattle.record_codec.proofs.Numbers.{number_code}
+use Rattle.record_codec.specs.Parts.{shared, Differ, Misses, IsWord, IsCode, Both, joined}
+use Rattle.record_codec.proofs.Shared.{shared-front, shared-append_left, shared-both, Differ-append, Differ-front}
 
 -- ---- one part in other words
 
@@ -80,20 +77,22 @@ next_missed {X} {Y} {A} {B} {s} {t} {bytes} {rest} {at} {whole} {x} code in_x is
       word = s x ++ t y;
       is_word = record { value = (x, y); allowed = record { first = in_x; second = h.is_word.allowed }; spelled = refl };
       reached = ap (λ (b : List ℕ). shared (s x ++ t y) b) is ∙ shared-front (s x) (t y) rest
-        ∙ ap (λ (w : List ℕ). length (s x) + shared w rest) (sym h.is_word.spelled) ∙ ap (λ (n : ℕ). length (s x) + n) h.reached ∙ sym sum;
+          ∙ ap (λ (w : List ℕ). length (s x) + shared w rest) (sym h.is_word.spelled) ∙ ap (λ (n : ℕ). length (s x) + n) h.reached ∙ sym sum;
       most = λ w word. (along w _ bytes whole word.spelled (only word.value.0 word.value.1 word.allowed.first word.allowed.second)).0;
       none = λ w word. (along w _ bytes whole word.spelled (only word.value.0 word.value.1 word.allowed.first word.allowed.second)).1;
     }
 
 pub Both_code : {X Y : Type 0} {A : X → Type 0} {B : X → Y → Type 0} {s : X → List ℕ} {t : Y → List ℕ} → IsCode A s → ((x : X) → A x → IsCode (B x) t) → IsCode (Both A B) (joined s t)
-Both_code {X} {Y} {A} {B} {s} {t} first second = record { apart = λ p q in_p in_q. elim (first.apart p.0 q.0 in_p.first in_q.first) [
-  | inl same ↦
-      let P : X → Type 0 = λ v. B v q.1 in
-      elim ((second p.0 in_p.first).apart p.1 q.1 in_p.second (subst P (sym same) in_q.second)) [
-        | inl equal ↦ inl (λ i. (same i, equal i))
-        | inr differ ↦
-            let Q : List ℕ → Type 0 = λ v. Differ (s p.0 ++ t p.1) (v ++ t q.1) in
-            inr (subst Q (ap s same) (Differ-front (s p.0) (t p.1) (t q.1) differ))
-      ]
-  | inr differ ↦ inr (Differ-append (s p.0) (s q.0) (t p.1) (t q.1) differ)
-] }
+Both_code {X} {Y} {A} {B} {s} {t} first second = record {
+  apart = λ p q in_p in_q. elim (first.apart p.0 q.0 in_p.first in_q.first) [
+    | inl same ↦
+        let P : X → Type 0 = λ v. B v q.1 in
+        elim ((second p.0 in_p.first).apart p.1 q.1 in_p.second (subst P (sym same) in_q.second)) [
+          | inl equal ↦ inl (λ i. (same i, equal i))
+          | inr differ ↦
+              let Q : List ℕ → Type 0 = λ v. Differ (s p.0 ++ t p.1) (v ++ t q.1) in
+              inr (subst Q (ap s same) (Differ-front (s p.0) (t p.1) (t q.1) differ))
+        ]
+    | inr differ ↦ inr (Differ-append (s p.0) (s q.0) (t p.1) (t q.1) differ)
+  ];
+}

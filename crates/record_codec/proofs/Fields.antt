@@ -1,7 +1,6 @@
 -- The fields of a record: that each can be gone on with, that their words differ, and what is missed in one.
-use Rattle.std.proofs.Common.{◌≡◌, ℕ, zero, suc, ◌+◌, ◌-◌, ◌<◌, ◌≤◌, ◌^◌, ◌⊎◌, Bool, true, false, eqb, cond, Option, Some, None, List, [], ◌∷◌, ◌++◌, length, take, set, replicate, get_or, refl, ap, ap₂, sym, ◌∙◌, subst, inl, inr, arith}
+use Rattle.std.proofs.Common.{◌≡◌, ℕ, zero, suc, ◌+◌, ◌-◌, ◌<◌, ◌≤◌, ◌^◌, Bool, true, false, eqb, cond, Option, Some, None, List, [], ◌∷◌, ◌++◌, length, take, set, replicate, refl, ap, ap₂, sym, ◌∙◌, subst, arith}
 use Rattle.std.proofs.lemmas.List.{length-replicate, length-set, get_or-replicate, get_or-set_other, take_all, take_more_set}
-use Rattle.std.proofs.lemmas.Bool.{cases_Bool}
 use Rattle.std.specs.List.{flat_map}
 use Rattle.byteorder.specs.Endian.{big_bytes}
 use Rattle.cz_base.specs.Text.{IsName, IsBody, is_name_byte, is_body_byte}
@@ -9,7 +8,7 @@ use Rattle.causal_deps.specs.Counts.{greater, raised_row, row_of, zero_table}
 use Rattle.record_codec.specs.declared.fault.DecodeFault.{DecodeFault}
 use Rattle.record_codec.specs.declared.reader.Own.{Own}
 use Rattle.record_codec.specs.Fields.{AreNames, AreEntries, AreRows, FitsOwn, IsEntry, greatest_entry, least_entry}
-use Rattle.record_codec.specs.Parts.{Differ, IsWord, IsCode, IsText, IsWithin, AreEach, IsSized, sized, as_it_is}
+use Rattle.record_codec.specs.Parts.{IsWord, IsCode, IsText, IsWithin, AreEach, IsSized, sized, as_it_is}
 use Rattle.record_codec.specs.Reading.{Place, Took, Fails}
 use Rattle.record_codec.specs.Wire.{name_bytes, names_bytes, body_bytes, counts_bytes, table_bytes}
 use Rattle.record_codec.proofs.Numbers.{number_code}
@@ -202,12 +201,13 @@ rows_more dcs i row table new {p} {q} {r} inside is zeros each is_row before now
     let put : new ≡ set table i row = is ∙ ap (λ (xs : List ℕ). set table i xs) same in
     let within : i < length table = omega (arith, zeros.rows) in
     let e : take (i + 1) new ≡ take i table ++ row ∷ [] = ap (λ (t : List (List ℕ)). take (i + 1) t) put ∙ take_more_set table i row within in
-    let P : List (List ℕ) → Type 0 = λ t. AreEach (λ (_ : ℕ). AreEntries None dcs) 0 (i + 1) t × Took p r (table_bytes t) in
-    (record {
-      rows = ap length put ∙ length-set table i row ∙ zeros.rows;
-      zeros = λ k from to. ap (λ (t : List (List ℕ)). row_of t k) put ∙ get_or-set_other table i k row [] (λ e. omega arith) ∙ zeros.zeros k (omega arith) to;
-    },
-    subst P (sym e) (each_push (λ (_ : ℕ). AreEntries None dcs) 0 i (take i table) row each is_row, Took-push counts_bytes (take i table) row before now))
+    let P : List (List ℕ) → Type 0 = λ t. AreEach (λ (_ : ℕ). AreEntries None dcs) 0 (i + 1) t × Took p r (table_bytes t) in (
+      record {
+        rows = ap length put ∙ length-set table i row ∙ zeros.rows;
+        zeros = λ k from to. ap (λ (t : List (List ℕ)). row_of t k) put ∙ get_or-set_other table i k row [] (λ e. omega arith) ∙ zeros.zeros k (omega arith) to;
+      },
+      subst P (sym e) (each_push (λ (_ : ℕ). AreEntries None dcs) 0 i (take i table) row each is_row, Took-push counts_bytes (take i table) row before now),
+    )
 
 -- all entries are written
 pub entries_all : (own : Option Own) (dcs i : ℕ) (counts : List ℕ) {p q : Place} → dcs ≤ i → i ≤ dcs → length counts ≡ dcs → AreEntries own i (take i counts) → Took p q (counts_bytes (take i counts))

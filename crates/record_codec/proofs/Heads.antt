@@ -1,5 +1,5 @@
 -- The head of a record: six numbers, one after the other.
-use Rattle.std.proofs.Common.{◌≡◌, ℕ, ◌+◌, ◌-◌, ◌<◌, ◌≤◌, ◌^◌, ◌⊎◌, List, [], ◌∷◌, ◌++◌, length, refl, ap, sym, ◌∙◌, subst, inl, inr, arith}
+use Rattle.std.proofs.Common.{◌≡◌, ℕ, ◌-◌, ◌<◌, ◌≤◌, ◌^◌, List, ◌++◌, refl, ap, sym, ◌∙◌, inl, inr, arith}
 use Rattle.std.proofs.lemmas.Bool.{cases_eq}
 use Rattle.byteorder.specs.Endian.{big_bytes}
 use Rattle.causal_deps.specs.declared.record.Kind.{Kind}
@@ -7,7 +7,7 @@ use Rattle.causal_deps.specs.declared.record.Kind.TheVariants.{Append, Put}
 use Rattle.record_codec.specs.declared.fault.DecodeFault.{DecodeFault}
 use Rattle.record_codec.specs.declared.record.Head.{Head}
 use Rattle.record_codec.specs.Fields.{IsHead, IsKind, head_word, kind_bytes}
-use Rattle.record_codec.specs.Parts.{Differ, IsWord, IsCode, IsWithin, Both, joined}
+use Rattle.record_codec.specs.Parts.{IsWord, IsCode, IsWithin, Both, joined}
 use Rattle.record_codec.specs.Reading.{Place, Took, Fails}
 use Rattle.record_codec.specs.Wire.{kind_number}
 use Rattle.record_codec.proofs.Numbers.{number_code}
@@ -43,37 +43,44 @@ kind_same Put Append e = absurd (omega (arith, e))
 kind_same Put Put e = refl
 
 pub kind_code : IsCode IsKind kind_bytes
-kind_code = record { apart = λ x y in_x in_y.
-  let code : IsCode (IsWithin 1 2) (big_bytes 1) = number_code 1 1 2 (omega arith) in
-  elim (code.apart (kind_number x) (kind_number y) (kind_within x) (kind_within y)) [
-    | inl same ↦ inl (kind_same x y same)
-    | inr differ ↦ inr differ
-  ] }
+kind_code = record {
+  apart = λ x y in_x in_y.
+      let code : IsCode (IsWithin 1 2) (big_bytes 1) = number_code 1 1 2 (omega arith) in
+      elim (code.apart (kind_number x) (kind_number y) (kind_within x) (kind_within y)) [
+        | inl same ↦ inl (kind_same x y same)
+        | inr differ ↦ inr differ
+      ];
+}
 
 -- ---- the head as pairs in pairs
 
 abbrev IsFrom5 : ℕ × Kind → Type 0
 IsFrom5 = Both (IsWithin 1 16384) (λ _. IsKind)
+
 abbrev from5 : ℕ × Kind → List ℕ
 from5 = joined (big_bytes 4) kind_bytes
 
 abbrev IsFrom4 : ℕ × (ℕ × Kind) → Type 0
 IsFrom4 = Both (IsWithin 0 63) (λ _. IsFrom5)
+
 abbrev from4 : ℕ × (ℕ × Kind) → List ℕ
 from4 = joined (big_bytes 2) from5
 
 abbrev IsFrom3 : ℕ × (ℕ × (ℕ × Kind)) → Type 0
 IsFrom3 = Both (IsWithin 1 (2 ^ 48 - 1)) (λ _. IsFrom4)
+
 abbrev from3 : ℕ × (ℕ × (ℕ × Kind)) → List ℕ
 from3 = joined (big_bytes 8) from4
 
 abbrev IsFrom2 : ℕ → ℕ → ℕ × (ℕ × (ℕ × (ℕ × Kind))) → Type 0
 IsFrom2 low high = Both (IsWithin low high) (λ _. IsFrom3)
+
 abbrev from2 : ℕ × (ℕ × (ℕ × (ℕ × Kind))) → List ℕ
 from2 = joined (big_bytes 1) from3
 
 abbrev IsFrom1 : ℕ → ℕ → ℕ → ℕ × (ℕ × (ℕ × (ℕ × (ℕ × Kind)))) → Type 0
 IsFrom1 dcs low high = Both (IsWithin dcs dcs) (λ _. IsFrom2 low high)
+
 abbrev from1 : ℕ × (ℕ × (ℕ × (ℕ × (ℕ × Kind)))) → List ℕ
 from1 = joined (big_bytes 1) from2
 
@@ -117,8 +124,10 @@ made2 : (low high : ℕ) → low ≤ high → (x : ℕ × (ℕ × (ℕ × (ℕ �
 made2 low high order = ((low, made3.0), record { first = record { least = omega arith; greatest = order }; second = made3.1 })
 
 pub head_made : (low high : ℕ) → low ≤ high → (head : Head) × IsHead low high head
-head_made low high order = (record { host = low; toid = 1; session = 0; index = 1; kind = Append },
-  record { host = (range_made low high order).1; toid = (range_made 1 (2 ^ 48 - 1) (omega arith)).1; session = (range_made 0 63 (omega arith)).1; index = (range_made 1 16384 (omega arith)).1 })
+head_made low high order = (
+  record { host = low; toid = 1; session = 0; index = 1; kind = Append },
+  record { host = (range_made low high order).1; toid = (range_made 1 (2 ^ 48 - 1) (omega arith)).1; session = (range_made 0 63 (omega arith)).1; index = (range_made 1 16384 (omega arith)).1 },
+)
 
 -- ---- what is missed
 
@@ -170,7 +179,7 @@ pub index_fails : {dcs : ℕ} (low high : ℕ) {d n t k : ℕ} {p q r s u : Plac
     → (f : DecodeFault) → Fails (IsWord (IsWithin 1 16384) (big_bytes 4)) u f → Fails (IsWord (IsHead low high) (head_word dcs)) p f
 index_fails low high {u = u} fits hosts is took is_host host is_toid toid is_session session f h =
     past_dcs low high fits is took f (past_host hosts is_host host f (past_toid is_toid toid f (past_session is_session session f
-        (fails_first (λ _. IsKind) (big_bytes 4) kind_bytes u (λ x in_x. (Append, tt)) f h))))
+    (fails_first (λ _. IsKind) (big_bytes 4) kind_bytes u (λ x in_x. (Append, tt)) f h))))
 
 pub last_fails : {dcs : ℕ} (low high : ℕ) {d n t k i : ℕ} {p q r s u v : Place} → dcs < 256 → high < 256 → IsWithin dcs dcs d → Took p q (big_bytes 1 d) → IsWithin low high n → Took q r (big_bytes 1 n)
     → IsWithin 1 (2 ^ 48 - 1) t → Took r s (big_bytes 8 t) → IsWithin 0 63 k → Took s u (big_bytes 2 k) → IsWithin 1 16384 i → Took u v (big_bytes 4 i)
@@ -185,8 +194,10 @@ head_code dcs low high fits hosts =
     let code3 : IsCode IsFrom3 from3 = Both_code (number_code 8 1 (2 ^ 48 - 1) (omega arith)) (λ x in_x. code4) in
     let code2 : IsCode (IsFrom2 low high) from2 = Both_code (number_code 1 low high (omega arith)) (λ x in_x. code3) in
     let code1 : IsCode (IsFrom1 dcs low high) from1 = Both_code (number_code 1 dcs dcs (omega arith)) (λ x in_x. code2) in
-    record { apart = λ x y in_x in_y. elim (code1.apart (dcs, (x.host, (x.toid, (x.session, (x.index, x.kind))))) (dcs, (y.host, (y.toid, (y.session, (y.index, y.kind)))))
-      (head_pairs dcs low high x in_x) (head_pairs dcs low high y in_y)) [
-        | inl same ↦ inl (λ i. record { host = (same i).1.0; toid = (same i).1.1.0; session = (same i).1.1.1.0; index = (same i).1.1.1.1.0; kind = (same i).1.1.1.1.1 })
-        | inr differ ↦ inr differ
-      ] }
+    record {
+      apart = λ x y in_x in_y. elim (code1.apart (dcs, (x.host, (x.toid, (x.session, (x.index, x.kind))))) (dcs, (y.host, (y.toid, (y.session, (y.index, y.kind)))))
+          (head_pairs dcs low high x in_x) (head_pairs dcs low high y in_y)) [
+            | inl same ↦ inl (λ i. record { host = (same i).1.0; toid = (same i).1.1.0; session = (same i).1.1.1.0; index = (same i).1.1.1.1.0; kind = (same i).1.1.1.1.1 })
+            | inr differ ↦ inr differ
+          ];
+    }

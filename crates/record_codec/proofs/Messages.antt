@@ -1,5 +1,5 @@
 -- A message: its form, its sender, the number of datacentres, its table and its records, one after the other.
-use Rattle.std.proofs.Common.{◌≡◌, ◌≢◌, ℕ, zero, suc, ◌+◌, ◌-◌, ◌<◌, ◌≤◌, ◌^◌, ◌⊎◌, All, Option, None, List, [], ◌∷◌, ◌++◌, length, get_or, refl, ap, sym, ◌∙◌, subst, inl, inr, arith}
+use Rattle.std.proofs.Common.{◌≡◌, ℕ, ◌+◌, ◌-◌, ◌<◌, ◌≤◌, ◌^◌, None, List, [], ◌∷◌, ◌++◌, length, get_or, refl, ap, sym, ◌∙◌, subst, inl, inr, arith}
 use Rattle.std.specs.List.{flat_map}
 use Rattle.std.proofs.lemmas.Bool.{cases_lt}
 use Rattle.std.proofs.lemmas.List.{get_or_default, get_or_past}
@@ -9,9 +9,9 @@ use Rattle.causal_deps.specs.declared.record.Record.{Record}
 use Rattle.record_codec.specs.declared.fault.DecodeFault.{DecodeFault}
 use Rattle.record_codec.specs.declared.message.Message.{Message}
 use Rattle.record_codec.specs.Fields.{AreEntries, AreRecords, AreRows, IsEntry, IsMessage, IsRecord}
-use Rattle.record_codec.specs.Parts.{Differ, IsWord, IsCode, IsWithin, IsSized, sized, AreEach, Both, joined}
+use Rattle.record_codec.specs.Parts.{IsWord, IsCode, IsWithin, IsSized, Both, joined}
 use Rattle.record_codec.specs.Reading.{Place, Took, Fails}
-use Rattle.record_codec.specs.Wire.{FitsMessage, FitsRecord, HasTexts, message_bytes, record_bytes, records_bytes, table_bytes}
+use Rattle.record_codec.specs.Wire.{message_bytes, record_bytes, records_bytes, table_bytes}
 use Rattle.record_codec.proofs.Numbers.{number_code}
 use Rattle.record_codec.proofs.Composing.{Both_code}
 use Rattle.record_codec.proofs.Several.{each_code, each_length, each_made, each_push, sized_code}
@@ -101,35 +101,39 @@ small_of_rows dcs table rows k h = elim (cases_lt k dcs) [
 
 row_of_small : (dcs : ℕ) (row : List ℕ) → length row ≡ dcs → ((h : ℕ) → get_or row h 0 < 2 ^ 48) → AreEntries None dcs row
 row_of_small dcs row size small = each_of (IsEntry None) 0 dcs row size (λ k d within.
-  let inside : k < length row = omega arith in
-  record { within = record { least = omega arith; greatest = omega (arith, get_or_default row k 0 d inside, small k) } })
+    let inside : k < length row = omega arith in
+    record { within = record { least = omega arith; greatest = omega (arith, get_or_default row k 0 d inside, small k) } })
 
 rows_of_square : (dcs : ℕ) (table : List (List ℕ)) → IsSquare dcs table → ((k h : ℕ) → entry_of table k h < 2 ^ 48) → AreRows dcs table
 rows_of_square dcs table square small =
     each_of (λ (_ : ℕ). AreEntries None dcs) 0 dcs table square.rows (λ k d within.
-      let inside : k < length table = omega (arith, square.rows) in
-      let P : List ℕ → Type 0 = λ row. AreEntries None dcs row in
-      subst P (get_or_default table k [] d inside) (row_of_small dcs (row_of table k) (square.entries k within) (small k)))
+    let inside : k < length table = omega (arith, square.rows) in
+    let P : List ℕ → Type 0 = λ row. AreEntries None dcs row in
+    subst P (get_or_default table k [] d inside) (row_of_small dcs (row_of table k) (square.entries k within) (small k)))
 
 -- ---- a message as pairs in pairs
 
 abbrev IsFromTable : ℕ → ℕ → List (List ℕ) × List Record → Type 0
 IsFromTable dcs host = Both (AreRows dcs) (λ _. IsSized 0 16 length (AreRecords dcs host))
+
 abbrev from_table : ℕ → List (List ℕ) × List Record → List ℕ
 from_table dcs = joined table_bytes (records_bytes dcs)
 
 abbrev IsFromDcs : ℕ → ℕ → ℕ × (List (List ℕ) × List Record) → Type 0
 IsFromDcs dcs host = Both (IsWithin dcs dcs) (λ _. IsFromTable dcs host)
+
 abbrev from_dcs : ℕ → ℕ × (List (List ℕ) × List Record) → List ℕ
 from_dcs dcs = joined (big_bytes 1) (from_table dcs)
 
 abbrev IsFromHost : ℕ → ℕ × (ℕ × (List (List ℕ) × List Record)) → Type 0
 IsFromHost dcs = Both (IsWithin 0 (dcs - 1)) (IsFromDcs dcs)
+
 abbrev from_host : ℕ → ℕ × (ℕ × (List (List ℕ) × List Record)) → List ℕ
 from_host dcs = joined (big_bytes 1) (from_dcs dcs)
 
 abbrev IsFromForm : ℕ → ℕ × (ℕ × (ℕ × (List (List ℕ) × List Record))) → Type 0
 IsFromForm dcs = Both (IsWithin 1 1) (λ _. IsFromHost dcs)
+
 abbrev from_form : ℕ → ℕ × (ℕ × (ℕ × (List (List ℕ) × List Record))) → List ℕ
 from_form dcs = joined (big_bytes 1) (from_host dcs)
 
@@ -161,8 +165,8 @@ message_pairs dcs m is = record {
         second = record {
           within = record { least = omega arith; greatest = is.fits.few };
           items = each_of (λ (_ : ℕ). IsRecord dcs m.from m.from) 0 (length m.records) m.records refl (λ k d within.
-            let host = is.fits.senders k d within in
-            record { fits = is.fits.records k d within; texts = is.texts k d within; host = record { least = omega arith; greatest = omega arith } });
+              let host = is.fits.senders k d within in
+              record { fits = is.fits.records k d within; texts = is.texts k d within; host = record { least = omega arith; greatest = omega arith } });
         };
       };
     };
@@ -179,7 +183,7 @@ message_there dcs some w word =
       value = record { from = v.1.0; table = v.1.1.1.0; records = v.1.1.1.1 };
       allowed = message_of_parts dcs (record { from = v.1.0; table = v.1.1.1.0; records = v.1.1.1.1 }) (omega (arith, a.second.first.greatest)) a.second.second.second.first a.second.second.second.second;
       spelled = word.spelled ∙ ap (λ (n : ℕ). big_bytes 1 n ++ from_host dcs v.1) form
-        ∙ ap (λ (n : ℕ). big_bytes 1 1 ++ (big_bytes 1 v.1.0 ++ (big_bytes 1 n ++ from_table dcs v.1.1.1))) same;
+          ∙ ap (λ (n : ℕ). big_bytes 1 1 ++ (big_bytes 1 v.1.0 ++ (big_bytes 1 n ++ from_table dcs v.1.1.1))) same;
     }
 
 message_back : (dcs : ℕ) (w : List ℕ) → IsWord (IsMessage dcs) (message_bytes dcs) w → IsWord (IsFromForm dcs) (from_form dcs) w
@@ -241,7 +245,7 @@ pub table_fails : (dcs : ℕ) {n host d : ℕ} {p q r s : Place} → 1 ≤ dcs �
 table_fails dcs {host = host} {s = s} some small is took is_host took_host is_dcs took_dcs f h =
     past_number dcs some small is took is_host took_host is_dcs took_dcs f
     (fails_first (λ _. IsSized 0 16 length (AreRecords dcs host)) table_bytes (records_bytes dcs) s
-      (λ x in_x. ([], record { within = record { least = omega arith; greatest = omega arith }; items = refl })) f h)
+    (λ x in_x. ([], record { within = record { least = omega arith; greatest = omega arith }; items = refl })) f h)
 
 pub records_fails : (dcs : ℕ) {n host d : ℕ} (table : List (List ℕ)) {p q r s t : Place} → 1 ≤ dcs → dcs ≤ 8 → IsWithin 1 1 n → Took p q (big_bytes 1 n) → IsWithin 0 (dcs - 1) host → Took q r (big_bytes 1 host)
     → IsWithin dcs dcs d → Took r s (big_bytes 1 d) → AreRows dcs table → Took s t (table_bytes table) → (f : DecodeFault)
@@ -264,10 +268,12 @@ pub message_code : (dcs : ℕ) → dcs ≤ 8 → IsCode (IsMessage dcs) (message
 message_code dcs small =
     let table : (host : ℕ) → host < dcs → IsCode (IsFromTable dcs host) (from_table dcs) = λ host fits. Both_code (rows_code dcs) (λ x in_x. records_code dcs host small fits) in
     let number : (host : ℕ) → host < dcs → IsCode (IsFromDcs dcs host) (from_dcs dcs) = λ host fits. Both_code (number_code 1 dcs dcs (omega arith)) (λ x in_x. table host fits) in
-    record { apart = λ x y in_x in_y.
-      let host : IsCode (IsFromHost dcs) (from_host dcs) = Both_code (number_code 1 0 (dcs - 1) (omega arith)) (λ n in_n. number n (omega (arith, in_n.greatest, in_x.fits.from))) in
-      let whole : IsCode (IsFromForm dcs) (from_form dcs) = Both_code (number_code 1 1 1 (omega arith)) (λ n in_n. host) in
-      elim (whole.apart (1, (x.from, (dcs, (x.table, x.records)))) (1, (y.from, (dcs, (y.table, y.records)))) (message_pairs dcs x in_x) (message_pairs dcs y in_y)) [
-        | inl same ↦ inl (λ i. record { from = (same i).1.0; table = (same i).1.1.1.0; records = (same i).1.1.1.1 })
-        | inr differ ↦ inr differ
-      ] }
+    record {
+      apart = λ x y in_x in_y.
+          let host : IsCode (IsFromHost dcs) (from_host dcs) = Both_code (number_code 1 0 (dcs - 1) (omega arith)) (λ n in_n. number n (omega (arith, in_n.greatest, in_x.fits.from))) in
+          let whole : IsCode (IsFromForm dcs) (from_form dcs) = Both_code (number_code 1 1 1 (omega arith)) (λ n in_n. host) in
+          elim (whole.apart (1, (x.from, (dcs, (x.table, x.records)))) (1, (y.from, (dcs, (y.table, y.records)))) (message_pairs dcs x in_x) (message_pairs dcs y in_y)) [
+            | inl same ↦ inl (λ i. record { from = (same i).1.0; table = (same i).1.1.1.0; records = (same i).1.1.1.1 })
+            | inr differ ↦ inr differ
+          ];
+    }

@@ -1,16 +1,15 @@
 -- Numbers of a range by the bytes that spell them, the highest first.
-use Rattle.std.proofs.Common.{◌≡◌, ℕ, zero, suc, ◌+◌, ◌-◌, ◌*◌, ◌/◌, ◌%◌, ◌^◌, ◌<◌, ◌≤◌, ◌⊎◌, max, List, [], ◌∷◌, ◌++◌, length, take, drop, get_or, refl, ap, ap₂, sym, ◌∙◌, subst, inl, inr, arith, append-nil, take-append-drop, get_or-drop, Bool, true, leb, ◌↔◌}
-use Rattle.std.proofs.Math.Nat.{div-div-eq-div-mul, div-mul-le_self, mul-div_left, mod-eq_of_lt, le-div_iff_mul-le, div-eq_of_lt, div-one, one-le-pow, pow-succ', pow-suc, mul_comm}
+use Rattle.std.proofs.Common.{◌≡◌, ℕ, zero, suc, ◌+◌, ◌-◌, ◌*◌, ◌/◌, ◌%◌, ◌^◌, ◌<◌, ◌≤◌, ◌⊎◌, max, List, [], ◌∷◌, ◌++◌, length, take, drop, get_or, refl, ap, ap₂, sym, ◌∙◌, subst, inl, inr, arith, append-nil, take-append-drop, get_or-drop, true, leb, ◌↔◌}
+use Rattle.std.proofs.Math.Nat.{div-div-eq-div-mul, div-mul-le_self, mul-div_left, le-div_iff_mul-le, div-eq_of_lt, div-one, one-le-pow, pow-suc}
 use Rattle.std.proofs.lemmas.Nat.{pow-add, div_below, same_from_place, le-div}
 use Rattle.std.proofs.lemmas.Bool.{cases_lt, leb-true, le-leb}
 use Rattle.std.proofs.lemmas.List.{length-take-le, take_all}
-use Rattle.std.specs.Int.{byte_at, bytes_high_first}
+use Rattle.std.specs.Int.{byte_at}
 use Rattle.byteorder.specs.Endian.{big_from, big_number, big_bytes}
-use Rattle.byteorder.specs.Numbers.{big_from-cons, big_from-take, big_from-bytes, big_from-lt, big_number-reads_back, length-bytes_high_first}
+use Rattle.byteorder.specs.Numbers.{big_from-cons, big_from-take, big_from-lt, big_number-reads_back, length-bytes_high_first}
 use Rattle.record_codec.specs.Parts.{shared, Differ, Misses, IsWord, IsCode, IsWithin}
 use Rattle.record_codec.specs.Reading.{BeginsNumber}
 use Rattle.record_codec.proofs.Shared.{shared_le_left, shared_le_right, take_same, shared_of_take}
-
 
 abbrev pub AreBytes : List ℕ → Type 0
 AreBytes xs = (i : ℕ) → get_or xs i 0 < 256
@@ -97,8 +96,8 @@ shared_of_number w k x bytes h fits are room e =
     let inside : k ≤ length (big_bytes w x) = omega arith in
     shared_of_take (big_bytes w x) bytes k inside room
     (same_from_number k (take k (big_bytes w x)) (take k bytes) (length-take-le k (big_bytes w x) inside) (length-take-le k bytes room)
-      (bytes-take k (big_bytes w x) (bytes-big_bytes w x)) (bytes-take k bytes are)
-      (front_number w k x h fits ∙ sym e ∙ sym (number_of_front k bytes)))
+    (bytes-take k (big_bytes w x) (bytes-big_bytes w x)) (bytes-take k bytes are)
+    (front_number w k x h fits ∙ sym e ∙ sym (number_of_front k bytes)))
 
 -- no byte begins any number of the range
 pub begins_none : (width low high : ℕ) (bytes : List ℕ) → low ≤ high → high < 256 ^ width → BeginsNumber width low high bytes 0
@@ -135,13 +134,14 @@ begins_of_number width low high k x bytes h within fits far =
 pub begun_number : (low high u v : ℕ) → 0 < u → low ≤ high → low / u ≤ v → v ≤ high / u → IsWithin low high (max low (v * u)) × (max low (v * u) / u ≡ v)
 begun_number low high u v some order least greatest =
     let top : v * u ≤ high = (le-div_iff_mul-le {k = u} {x = v} {y = high} some).0 greatest in
-    let whole : v * u / u ≡ v = mul-div_left v some in
-    (record { least = omega arith; greatest = omega arith },
-    elim (cases_lt low (v * u)) [
-      | inl below ↦ ap (λ (n : ℕ). n / u) {x = max low (v * u)} {y = v * u} (omega arith) ∙ whole
-      | inr above ↦ let le : v ≤ low / u = le-div v low u some above in
-          ap (λ (n : ℕ). n / u) {x = max low (v * u)} {y = low} (omega arith) ∙ omega arith
-    ])
+    let whole : v * u / u ≡ v = mul-div_left v some in (
+      record { least = omega arith; greatest = omega arith },
+      elim (cases_lt low (v * u)) [
+        | inl below ↦ ap (λ (n : ℕ). n / u) {x = max low (v * u)} {y = v * u} (omega arith) ∙ whole
+        | inr above ↦ let le : v ≤ low / u = le-div v low u some above in
+            ap (λ (n : ℕ). n / u) {x = max low (v * u)} {y = low} (omega arith) ∙ omega arith
+      ],
+    )
 
 number_most : (width low high : ℕ) (bytes : List ℕ) (n : ℕ) → n < width → high < 256 ^ width
     → (n < width → n < length bytes → BeginsNumber width low high bytes (n + 1) → ⊥)
@@ -185,7 +185,7 @@ number_apart width low high fits x y in_x in_y =
           sym (take_all width (big_bytes width x) (omega arith)) ∙ take_same (big_bytes width x) (big_bytes width y) width whole
           ∙ take_all width (big_bytes width y) (omega arith) in
           inl (sym (number_back width x (omega (arith, in_x.greatest))) ∙ ap (λ (bs : List ℕ). big_from 0 width bs) all
-            ∙ number_back width y (omega (arith, in_y.greatest)))
+          ∙ number_back width y (omega (arith, in_y.greatest)))
     ]
 
 -- numbers of one width that are not equal differ
@@ -207,9 +207,10 @@ pub tested_both : (width low high known : ℕ) (bytes : List ℕ) (n : ℕ) → 
 tested_both width low high known bytes n is least =
     let e : 2 ^ (8 * (width - known)) ≡ 256 ^ (width - known) = pow_of_shift (width - known) in
     let lows : low / 2 ^ (8 * (width - known)) ≡ low / 256 ^ (width - known) = ap (λ (u : ℕ). low / u) e in
-    let highs : high / 2 ^ (8 * (width - known)) ≡ high / 256 ^ (width - known) = ap (λ (u : ℕ). high / u) e in
-    (λ h. let le = leb-true n (high / 2 ^ (8 * (width - known))) h in record { least = omega arith; greatest = omega arith },
-    λ h. le-leb n (high / 2 ^ (8 * (width - known))) (omega (arith, h.greatest)))
+    let highs : high / 2 ^ (8 * (width - known)) ≡ high / 256 ^ (width - known) = ap (λ (u : ℕ). high / u) e in (
+      λ h. let le = leb-true n (high / 2 ^ (8 * (width - known))) h in record { least = omega arith; greatest = omega arith },
+      λ h. le-leb n (high / 2 ^ (8 * (width - known))) (omega (arith, h.greatest)),
+    )
 
 pub tested_low : (width low high known : ℕ) (bytes : List ℕ) (n : ℕ) → n ≡ big_number known bytes → n < low / 2 ^ (8 * (width - known))
     → BeginsNumber width low high bytes known → ⊥

@@ -1,8 +1,11 @@
 -- Bytes that were written one piece after the other.
-use Rattle.std.proofs.Common.{◌≡◌, ℕ, ◌+◌, ◌<◌, ◌≤◌, All, List, [], ◌∷◌, ◌++◌, length, take, get_or, refl, ap, sym, ◌∙◌, subst, arith, append_assoc}
+use Rattle.std.proofs.Common.{◌≡◌, ℕ, ◌+◌, ◌<◌, ◌≤◌, All, List, [], ◌∷◌, ◌++◌, length, take, get_or, ap, sym, ◌∙◌, subst, append_assoc}
 use Rattle.std.proofs.lemmas.List.{flat_map_more, take_more, take_all}
+use Rattle.std.proofs.lemmas.List.Elements.{All-push}
 use Rattle.std.specs.List.{flat_map}
 use Rattle.byteorder.specs.Endian.{big_bytes}
+use Rattle.causal_deps.specs.declared.record.Record.{Record}
+use Rattle.record_codec.specs.Wire.{record_bytes, records_bytes, FitsRecord}
 
 pub pieces_4 : (w u v x y a b c d : List ℕ) → u ≡ w ++ a → v ≡ u ++ b → x ≡ v ++ c → y ≡ x ++ d → y ≡ w ++ (a ++ (b ++ (c ++ d)))
 pieces_4 w u v x y a b c d e1 e2 e3 e4 =
@@ -28,12 +31,12 @@ head_written w u v x y z t dcs dcs' host host' toid session index kind kind' is_
     (e1 ∙ ap (λ (n : ℕ). w ++ big_bytes 1 n) is_dcs) (e2 ∙ ap (λ (n : ℕ). u ++ big_bytes 1 n) is_host) e3 e4 e5 (e6 ∙ ap (λ (n : ℕ). z ++ big_bytes 1 n) is_kind)
 
 -- the five parts of a message
-pub message_written : (w u v x y z : List ℕ) (dcs dcs' host host' : ℕ) (table records : List ℕ) → dcs ≡ dcs' → host ≡ host'
-    → u ≡ w ++ big_bytes 1 1 → v ≡ u ++ big_bytes 1 host → x ≡ v ++ big_bytes 1 dcs → y ≡ x ++ table → z ≡ y ++ records
-    → z ≡ w ++ (big_bytes 1 1 ++ (big_bytes 1 host' ++ (big_bytes 1 dcs' ++ (table ++ records))))
+pub message_written : (w u v x y z : List ℕ) (dcs dcs' host host' : ℕ) (table : List ℕ) (records : List Record) → dcs ≡ dcs' → host ≡ host'
+    → u ≡ w ++ big_bytes 1 1 → v ≡ u ++ big_bytes 1 host → x ≡ v ++ big_bytes 1 dcs → y ≡ x ++ table → z ≡ y ++ records_bytes dcs records
+    → z ≡ w ++ (big_bytes 1 1 ++ (big_bytes 1 host' ++ (big_bytes 1 dcs' ++ (table ++ records_bytes dcs' records))))
 message_written w u v x y z dcs dcs' host host' table records is_dcs is_host e1 e2 e3 e4 e5 =
-    pieces_5 w u v x y z (big_bytes 1 1) (big_bytes 1 host') (big_bytes 1 dcs') table records
-    e1 (e2 ∙ ap (λ (n : ℕ). u ++ big_bytes 1 n) is_host) (e3 ∙ ap (λ (n : ℕ). v ++ big_bytes 1 n) is_dcs) e4 e5
+    pieces_5 w u v x y z (big_bytes 1 1) (big_bytes 1 host') (big_bytes 1 dcs') table (records_bytes dcs' records)
+    e1 (e2 ∙ ap (λ (n : ℕ). u ++ big_bytes 1 n) is_host) (e3 ∙ ap (λ (n : ℕ). v ++ big_bytes 1 n) is_dcs) e4 (e5 ∙ ap (λ (n : ℕ). y ++ records_bytes n records) is_dcs)
 
 -- one more value of a list
 pub written_more : {X : Type 0} (s : X → List ℕ) (xs : List X) (i : ℕ) (x : X) (w u v : List ℕ) → i < length xs → x ≡ get_or xs i x → u ≡ w ++ flat_map s (take i xs) → v ≡ u ++ s x
@@ -45,3 +48,18 @@ written_more {X} s xs i x w u v inside is before now =
 -- all values of a list
 pub written_all : {X : Type 0} (s : X → List ℕ) (xs : List X) (i : ℕ) (w u : List ℕ) → length xs ≤ i → u ≡ w ++ flat_map s (take i xs) → u ≡ w ++ flat_map s xs
 written_all {X} s xs i w u past e = e ∙ ap (λ (ys : List X). w ++ flat_map s ys) (take_all i xs past)
+
+-- what holds of each, and of one more
+pub all_more : {X : Type 0} (P : X → Type 0) (xs : List X) (i : ℕ) (x : X) → i < length xs → x ≡ get_or xs i x → All P (take i xs) → P x → All P (take (i + 1) xs)
+all_more {X} P xs i x inside is before now =
+    let Q : List X → Type 0 = λ ys. All P ys in
+    subst Q (ap (λ (y : X). take i xs ++ y ∷ []) is ∙ sym (take_more xs i x inside)) (All-push P (take i xs) x before now)
+
+-- one more record
+pub records_written_more : (dcs : ℕ) (xs ys : List Record) (i : ℕ) (x : Record) (w u v : List ℕ) → xs ≡ ys → All (λ r. FitsRecord dcs r) ys → i < length xs → x ≡ get_or xs i x
+    → u ≡ w ++ flat_map (record_bytes dcs) (take i xs) → v ≡ u ++ record_bytes (length x.dep) x → v ≡ w ++ flat_map (record_bytes dcs) (take (i + 1) xs)
+records_written_more dcs xs ys i x w u v same fits inside is before now =
+    let P : List Record → Type 0 = λ zs. All (λ r. FitsRecord dcs r) zs in
+    let all : All (λ r. FitsRecord dcs r) xs = subst P (sym same) fits in
+    let e : length x.dep ≡ dcs = ap (λ (r : Record). length r.dep) is ∙ (all i x inside).entries in
+    written_more (record_bytes dcs) xs i x w u v inside is before (now ∙ ap (λ (n : ℕ). u ++ record_bytes n x) e)

@@ -1,5 +1,5 @@
 -- What a reader missed, in a part of several.
-use Rattle.std.proofs.Common.{◌≡◌, ℕ, ◌+◌, ◌<◌, ◌≤◌, ◌^◌, List, [], ◌∷◌, ◌++◌, length, Result, Ok, Err, refl, ap, sym, ◌∙◌, subst, arith, append_assoc}
+use Rattle.std.proofs.Common.{◌≡◌, ℕ, ◌+◌, ◌<◌, ◌^◌, List, [], ◌∷◌, ◌++◌, length, Result, Ok, Err, refl, ap, sym, ◌∙◌, subst, arith, append_assoc}
 use Rattle.std.proofs.lemmas.List.{length-append, flat_map_more}
 use Rattle.std.proofs.lemmas.Result.{err_from_is_err_and, IfErr-weaker}
 use Rattle.std.specs.Result.{IfErr, IfOk, IsErrAnd}
@@ -8,7 +8,7 @@ use Rattle.byteorder.specs.Endian.{big_bytes}
 use Rattle.record_codec.specs.declared.fault.DecodeFault.{DecodeFault}
 use Rattle.record_codec.specs.declared.fault.DecodeFault.TheVariants.{Malformed, NoMemory}
 use Rattle.record_codec.specs.Parts.{Misses, IsWord, IsCode, Both, joined, IsWithin, AreEach, IsSized, sized}
-use Rattle.record_codec.specs.Reading.{Place, Took, MissesFrom, Fails}
+use Rattle.record_codec.specs.Reading.{Place, Took, Fails}
 use Rattle.record_codec.proofs.Composing.{Misses-same, first_missed, next_missed}
 use Rattle.record_codec.proofs.Several.{size_missed, items_missed, each_missed}
 
@@ -69,7 +69,7 @@ fails_each A s n m xs {p} {q} code make each short took (Malformed at) h =
     record {
       off = length (flat_map s xs) + h.off;
       misses = each_missed A s 0 n m xs p.left q.left h.off (length (flat_map s xs) + h.off) code make each short took.bytes
-        (subst P {x = m} {y = 0 + m} (omega arith) h.misses) refl;
+          (subst P {x = m} {y = 0 + m} (omega arith) h.misses) refl;
       is = omega (arith, h.is, took.at);
     }
 fails_each A s n m xs code make each short took NoMemory h = tt

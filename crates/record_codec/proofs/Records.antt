@@ -1,5 +1,5 @@
 -- A record: its head, its dependencies, its tags and its body, one after the other.
-use Rattle.std.proofs.Common.{◌≡◌, ℕ, zero, suc, ◌+◌, ◌-◌, ◌<◌, ◌≤◌, ◌^◌, ◌⊎◌, Bool, true, false, eqb, cond, All, Some, List, [], ◌∷◌, ◌++◌, length, get_or, refl, ap, sym, ◌∙◌, subst, inl, inr, arith}
+use Rattle.std.proofs.Common.{◌≡◌, ℕ, zero, suc, ◌+◌, ◌-◌, ◌<◌, ◌≤◌, ◌^◌, Bool, cond, Some, List, [], ◌∷◌, length, get_or, refl, ap, sym, ◌∙◌, subst, inl, inr, arith}
 use Rattle.std.proofs.lemmas.Bool.{cases_eq, eq-eqb, ne_eqb}
 use Rattle.std.proofs.lemmas.List.{get_or_default}
 use Rattle.cz_base.specs.Text.{IsName, IsBody}
@@ -10,9 +10,9 @@ use Rattle.record_codec.specs.declared.fault.DecodeFault.{DecodeFault}
 use Rattle.record_codec.specs.declared.reader.Own.{Own}
 use Rattle.record_codec.specs.declared.record.Head.{Head}
 use Rattle.record_codec.specs.Fields.{AreEntries, AreNames, FitsOwn, IsEntry, IsHead, IsRecord, head_word, least_entry, greatest_entry}
-use Rattle.record_codec.specs.Parts.{Differ, IsWord, IsCode, IsWithin, IsSized, AreEach, Both, joined}
+use Rattle.record_codec.specs.Parts.{IsWord, IsCode, IsSized, AreEach, Both, joined}
 use Rattle.record_codec.specs.Reading.{Place, Took, Fails}
-use Rattle.record_codec.specs.Wire.{body_bytes, counts_bytes, fewest_tags, most_tags, names_bytes, record_bytes, FitsRecord, HasTexts}
+use Rattle.record_codec.specs.Wire.{body_bytes, counts_bytes, fewest_tags, most_tags, names_bytes, record_bytes}
 use Rattle.record_codec.proofs.Composing.{Both_code}
 use Rattle.record_codec.proofs.Several.{each_length}
 use Rattle.record_codec.proofs.Fields.{body_code, entries_code, entries_made, least_le_greatest, names_code, names_made}
@@ -32,10 +32,11 @@ pub each_of : {X : Type 0} (A : ℕ → X → Type 0) (i n : ℕ) (xs : List X) 
 each_of A i n [] size at = sym size
 each_of A i zero (x ∷ xs) size at = absurd (omega arith)
 each_of {X} A i (suc n) (x ∷ xs) size at =
-    let P : ℕ → Type 0 = λ j. A j x in
-    (subst P {x = i + 0} {y = i} (omega arith) (at 0 x (omega arith)),
-    each_of A (suc i) n xs (omega arith) (λ k d within. let Q : ℕ → Type 0 = λ j. A j (get_or xs k d) in
-      subst Q {x = i + suc k} {y = suc i + k} (omega arith) (at (suc k) d (omega arith))))
+    let P : ℕ → Type 0 = λ j. A j x in (
+      subst P {x = i + 0} {y = i} (omega arith) (at 0 x (omega arith)),
+      each_of A (suc i) n xs (omega arith) (λ k d within. let Q : ℕ → Type 0 = λ j. A j (get_or xs k d) in
+          subst Q {x = i + suc k} {y = suc i + k} (omega arith) (at (suc k) d (omega arith))),
+    )
 
 -- ---- the entries of a record's dependencies
 
@@ -118,10 +119,10 @@ parts_of_record {dcs} {low} {high} {r} h =
       own_host = refl;
       own_count = refl;
       dep = each_of (IsEntry (Some (record { host = r.host; count = r.toid - 1 }))) 0 dcs r.dep h.fits.entries (λ k d within.
-        let inside : k < length r.dep = omega (arith, h.fits.entries) in
-        let P : ℕ → Type 0 = λ j. IsEntry (Some (record { host = r.host; count = r.toid - 1 })) j (get_or r.dep k d) in
-        subst P {x = k} {y = 0 + k} (omega arith)
-        (entry_of_own (record { host = r.host; count = r.toid - 1 }) k (get_or r.dep k d)
+          let inside : k < length r.dep = omega (arith, h.fits.entries) in
+          let P : ℕ → Type 0 = λ j. IsEntry (Some (record { host = r.host; count = r.toid - 1 })) j (get_or r.dep k d) in
+          subst P {x = k} {y = 0 + k} (omega arith)
+          (entry_of_own (record { host = r.host; count = r.toid - 1 }) k (get_or r.dep k d)
           (λ here. get_or_default r.dep k d 0 inside ∙ ap (λ (j : ℕ). get_or r.dep j 0) here ∙ h.fits.own) (h.fits.dep k d inside)));
       tags = record {
         within = record { least = h.fits.tags_first; greatest = h.fits.tags };
@@ -134,16 +135,19 @@ parts_of_record {dcs} {low} {high} {r} h =
 
 abbrev IsFromTags : Kind → List (List ℕ) × List ℕ → Type 0
 IsFromTags kind = Both (IsSized (fewest_tags kind) (most_tags kind) length AreNames) (λ _. IsBody)
+
 abbrev from_tags : List (List ℕ) × List ℕ → List ℕ
 from_tags = joined names_bytes body_bytes
 
 abbrev IsFromDep : ℕ → Head → List ℕ × (List (List ℕ) × List ℕ) → Type 0
 IsFromDep dcs head = Both (AreEntries (Some (own_of head)) dcs) (λ _. IsFromTags head.kind)
+
 abbrev from_dep : List ℕ × (List (List ℕ) × List ℕ) → List ℕ
 from_dep = joined counts_bytes from_tags
 
 abbrev IsFromHead : ℕ → ℕ → ℕ → Head × (List ℕ × (List (List ℕ) × List ℕ)) → Type 0
 IsFromHead dcs low high = Both (IsHead low high) (IsFromDep dcs)
+
 abbrev from_head : ℕ → Head × (List ℕ × (List (List ℕ) × List ℕ)) → List ℕ
 from_head dcs = joined (head_word dcs) from_dep
 
@@ -271,10 +275,12 @@ record_code dcs low high small fits =
     let dep : (head : Head) → IsHead low high head → IsCode (IsFromDep dcs head) from_dep = λ head is.
     Both_code (entries_code (Some (own_of head)) dcs (own_fits low high head is)) (λ x in_x. tags head.kind) in
     let whole : IsCode (IsFromHead dcs low high) (from_head dcs) = Both_code (head_code dcs low high small (omega arith)) dep in
-    record { apart = λ x y in_x in_y. elim (whole.apart (head_of x, (x.dep, (x.tags, x.body))) (head_of y, (y.dep, (y.tags, y.body))) (record_pairs dcs low high x in_x) (record_pairs dcs low high y in_y)) [
-      | inl same ↦ inl (λ i. record { host = (same i).0.host; toid = (same i).0.toid; session = (same i).0.session; index = (same i).0.index; kind = (same i).0.kind; tags = (same i).1.1.0; body = (same i).1.1.1; dep = (same i).1.0 })
-      | inr differ ↦ inr differ
-    ] }
+    record {
+      apart = λ x y in_x in_y. elim (whole.apart (head_of x, (x.dep, (x.tags, x.body))) (head_of y, (y.dep, (y.tags, y.body))) (record_pairs dcs low high x in_x) (record_pairs dcs low high y in_y)) [
+        | inl same ↦ inl (λ i. record { host = (same i).0.host; toid = (same i).0.toid; session = (same i).0.session; index = (same i).0.index; kind = (same i).0.kind; tags = (same i).1.1.0; body = (same i).1.1.1; dep = (same i).1.0 })
+        | inr differ ↦ inr differ
+      ];
+    }
 
 -- tags in a range that is given in other words
 pub tags_as : (least most low high : ℕ) (tags : List (List ℕ)) → least ≡ low → most ≡ high → IsSized least most length AreNames tags → IsSized low high length AreNames tags

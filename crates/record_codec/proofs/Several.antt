@@ -1,5 +1,5 @@
 -- Values behind their size, and one value after the other.
-use Rattle.std.proofs.Common.{◌≡◌, ℕ, zero, suc, ◌+◌, ◌<◌, ◌≤◌, ◌^◌, ◌⊎◌, List, [], ◌∷◌, ◌++◌, length, refl, ap, ap₂, sym, ◌∙◌, subst, inl, inr, arith, append_assoc, append-nil}
+use Rattle.std.proofs.Common.{◌≡◌, ℕ, zero, suc, ◌+◌, ◌<◌, ◌^◌, ◌⊎◌, List, [], ◌∷◌, ◌++◌, length, refl, ap, ap₂, sym, ◌∙◌, subst, inl, inr, arith, append_assoc}
 use Rattle.std.proofs.lemmas.List.{length-append}
 use Rattle.std.specs.List.{flat_map}
 use Rattle.byteorder.specs.Endian.{big_bytes}
@@ -54,10 +54,12 @@ pub sized_code : {Y : Type 0} (width low high : ℕ) (size : Y → ℕ) (B : ℕ
     → high < 256 ^ width → ((n : ℕ) → IsCode (B n) t) → IsCode (IsSized low high size B) (sized width size t)
 sized_code {Y} width low high size B t fits each =
     let both : IsCode (Both (IsWithin low high) B) (joined (big_bytes width) t) = Both_code (number_code width low high fits) (λ n within. each n) in
-    record { apart = λ x y in_x in_y. elim (both.apart (size x, x) (size y, y) (record { first = in_x.within; second = in_x.items }) (record { first = in_y.within; second = in_y.items })) [
-      | inl same ↦ inl (ap (λ (p : ℕ × Y). p.1) same)
-      | inr differ ↦ inr differ
-    ] }
+    record {
+      apart = λ x y in_x in_y. elim (both.apart (size x, x) (size y, y) (record { first = in_x.within; second = in_x.items }) (record { first = in_y.within; second = in_y.items })) [
+        | inl same ↦ inl (ap (λ (p : ℕ × Y). p.1) same)
+        | inr differ ↦ inr differ
+      ];
+    }
 
 -- ---- one value after the other
 

@@ -1,12 +1,12 @@
 -- From what a reader missed to the place where bytes stop being some spelling.
-use Rattle.std.proofs.Common.{◌≡◌, ◌≢◌, ℕ, ◌+◌, ◌<◌, ◌≤◌, ◌⊎◌, List, [], ◌∷◌, ◌++◌, length, take, drop, Result, Ok, Err, refl, ap, sym, ◌∙◌, subst, inl, inr, arith, take-append-drop}
+use Rattle.std.proofs.Common.{◌≡◌, ◌≢◌, ℕ, ◌+◌, ◌<◌, ◌≤◌, List, [], ◌∷◌, ◌++◌, length, take, drop, Result, Ok, Err, refl, ap, sym, ◌∙◌, subst, inl, inr, arith, take-append-drop}
 use Rattle.std.specs.Result.{IfErr, IfOk, MatchResult}
-use Rattle.std.proofs.lemmas.List.{append-nil, length-append, length-take-le, nil_from_length, take_all, take_at, take-take}
+use Rattle.std.proofs.lemmas.List.{append-nil, length-append, length-take-le, take_all, take_at, take-take}
 use Rattle.record_codec.specs.declared.fault.DecodeFault.{DecodeFault}
 use Rattle.record_codec.specs.declared.fault.DecodeFault.TheVariants.{Malformed, NoMemory}
-use Rattle.record_codec.specs.Parts.{shared, Differ, Misses, IsWord, IsCode}
+use Rattle.record_codec.specs.Parts.{shared, Misses, IsWord, IsCode}
 use Rattle.record_codec.specs.Reading.{Place, Fails, Took}
-use Rattle.record_codec.specs.Starts.{Begins, IsBadAt, IsRefused}
+use Rattle.record_codec.specs.Starts.{IsBadAt, IsRefused}
 use Rattle.record_codec.proofs.Shared.{shared_le_right, shared-front, shared_of_take, take_same}
 
 shared_self : (xs : List ℕ) → shared xs xs ≡ length xs
@@ -17,13 +17,15 @@ pub bad_of_miss : (W : List ℕ → Type 0) (bytes : List ℕ) (at : ℕ) → Mi
 bad_of_miss W bytes at h = record {
   bad = λ is. omega (arith, h.none bytes is, shared_self bytes);
   within = omega (arith, h.reached, shared_le_right h.word bytes);
-  begun = (drop at h.word,
-    subst W (sym (ap (λ (xs : List ℕ). xs ++ drop at h.word) (sym (take_same h.word bytes at (omega (arith, h.reached)))) ∙ take-append-drop at h.word)) h.is_word);
+  begun = (
+    drop at h.word,
+    subst W (sym (ap (λ (xs : List ℕ). xs ++ drop at h.word) (sym (take_same h.word bytes at (omega (arith, h.reached)))) ∙ take-append-drop at h.word)) h.is_word,
+  );
   longest = λ n above within begins.
-    let size : length (take n bytes) ≡ n = length-take-le n bytes within in
-    let inside : n ≤ length (take n bytes ++ begins.0) = omega (arith, length-append (take n bytes) begins.0) in
-    let far : n ≤ shared (take n bytes ++ begins.0) bytes = shared_of_take (take n bytes ++ begins.0) bytes n inside within (take_at (take n bytes) begins.0 n size) in
-    omega (arith, h.most (take n bytes ++ begins.0) begins.1);
+      let size : length (take n bytes) ≡ n = length-take-le n bytes within in
+      let inside : n ≤ length (take n bytes ++ begins.0) = omega (arith, length-append (take n bytes) begins.0) in
+      let far : n ≤ shared (take n bytes ++ begins.0) bytes = shared_of_take (take n bytes ++ begins.0) bytes n inside within (take_at (take n bytes) begins.0 n size) in
+      omega (arith, h.most (take n bytes ++ begins.0) begins.1);
 }
 
 above_zero : (xs : List ℕ) → xs ≢ [] → 0 < length xs
@@ -55,10 +57,10 @@ bad_of_more {X} A s x bytes rest code in_x is more =
       within = omega arith;
       begun = ([], record { value = x; allowed = in_x; spelled = append-nil (take (length (s x)) bytes) ∙ front });
       longest = λ n above within begins.
-        let cut : length (take n bytes) ≡ n = length-take-le n bytes within in
-        let word = begins.1 in
-        only word.value n word.allowed above (omega (arith, ap length word.spelled, length-append (take n bytes) begins.0, cut))
-        (ap (λ (b : List ℕ). take n b) (sym word.spelled) ∙ take_at (take n bytes) begins.0 n cut);
+          let cut : length (take n bytes) ≡ n = length-take-le n bytes within in
+          let word = begins.1 in
+          only word.value n word.allowed above (omega (arith, ap length word.spelled, length-append (take n bytes) begins.0, cut))
+          (ap (λ (b : List ℕ). take n b) (sym word.spelled) ∙ take_at (take n bytes) begins.0 n cut);
     }
 
 pub bad_same : {W V : List ℕ → Type 0} (bytes : List ℕ) (at : ℕ) → ((w : List ℕ) → W w → V w) → ((w : List ℕ) → V w → W w) → IsBadAt W bytes at → IsBadAt V bytes at

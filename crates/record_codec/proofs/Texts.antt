@@ -1,16 +1,16 @@
 -- Texts of so many bytes that all pass a test.
-use Rattle.std.proofs.Common.{◌≡◌, ℕ, zero, suc, ◌+◌, ◌-◌, ◌<◌, ◌≤◌, ◌⊎◌, Bool, true, false, not, cond, ltb, List, [], ◌∷◌, ◌++◌, length, take, replicate, get_or, Option, Some, None, refl, ap, sym, ◌∙◌, subst, inl, inr, arith, get_or-take}
+use Rattle.std.proofs.Common.{◌≡◌, ℕ, ◌+◌, ◌-◌, ◌<◌, ◌≤◌, ◌⊎◌, Bool, true, false, not, cond, ltb, List, [], ◌++◌, length, take, replicate, get_or, Some, None, refl, ap, sym, ◌∙◌, subst, inl, inr, arith, get_or-take}
 use Rattle.std.proofs.lemmas.List.{length-append, length-replicate, length-take, length-take-le, get_or-replicate, get_or_append_left, get_or-append_right, take_at, take_all, nil_from_length}
 use Rattle.std.proofs.lemmas.List.Sums.{position_or_len_is, fails_before_first}
 use Rattle.std.proofs.lemmas.List.Quantifiers.{position-Some}
 use Rattle.std.proofs.lemmas.Bool.{cases_lt, cases_Bool, le-ltb, ltb-false, not-true, not-false}
-use Rattle.std.specs.List.{position, position_or_len}
+use Rattle.std.specs.List.{position_or_len}
 use Rattle.cz_base.specs.Text.{first_bad}
 use Rattle.record_codec.specs.Parts.{shared, Differ, Misses, IsWord, IsCode, IsText, as_it_is}
 use Rattle.record_codec.specs.declared.fault.DecodeFault.{DecodeFault}
 use Rattle.record_codec.specs.declared.fault.DecodeFault.TheVariants.{Malformed}
 use Rattle.record_codec.specs.Reading.{Place, Fails}
-use Rattle.record_codec.proofs.Shared.{shared_le_left, shared_le_right, take_same, shared_of_take}
+use Rattle.record_codec.proofs.Shared.{shared_le_right, take_same, shared_of_take}
 
 -- every byte passes, so there is no first bad one
 pub none_bad : (good : ℕ → Bool) (xs : List ℕ) → ((i : ℕ) → i < length xs → good (get_or xs i 0) ≡ true) → first_bad good xs ≡ None

@@ -1,5 +1,5 @@
 -- All of the bytes as one record or one message.
-use Rattle.std.proofs.Common.{◌≡◌, ◌≢◌, ℕ, ◌+◌, ◌-◌, ◌<◌, ◌≤◌, ◌⊎◌, List, [], ◌++◌, length, Result, refl, ap, sym, ◌∙◌, subst, inl, inr, arith}
+use Rattle.std.proofs.Common.{◌≡◌, ◌≢◌, ℕ, ◌-◌, ◌≤◌, List, [], ◌++◌, length, Result, refl, ap, sym, ◌∙◌, subst, inl, inr, arith}
 use Rattle.std.specs.Result.{IfErr, IfOk, MatchResult}
 use Rattle.std.proofs.lemmas.List.{append-nil, length-append, nil_from_length}
 use Rattle.std.proofs.lemmas.Result.{IfOk-weaker}
@@ -8,10 +8,10 @@ use Rattle.record_codec.specs.declared.fault.DecodeFault.{DecodeFault}
 use Rattle.record_codec.specs.declared.fault.DecodeFault.TheVariants.{Malformed, NoMemory}
 use Rattle.record_codec.specs.declared.message.Message.{Message}
 use Rattle.record_codec.specs.Fields.{IsMessage, IsRecord}
-use Rattle.record_codec.specs.Parts.{shared, Differ, IsWord, IsCode}
+use Rattle.record_codec.specs.Parts.{shared, IsWord, IsCode}
 use Rattle.record_codec.specs.Reading.{Place, Fails, Took}
 use Rattle.record_codec.specs.Starts.{IsRefused}
-use Rattle.record_codec.specs.Wire.{FitsRecord, IsMessageText, IsRecordText, SpellsMessage, SpellsRecord, message_bytes, record_bytes}
+use Rattle.record_codec.specs.Wire.{FitsMessage, FitsRecord, IsMessageText, IsRecordText, SpellsMessage, SpellsRecord, message_bytes, record_bytes}
 use Rattle.record_codec.proofs.Shared.{shared-front}
 use Rattle.record_codec.proofs.Starts.{only_spelled, refused_of_miss, refused_of_more, refused_same}
 use Rattle.record_codec.proofs.Records.{record_code}
@@ -58,6 +58,10 @@ record_only dcs bytes result some small ok err r is =
     (IfOk-weaker result (λ x. SpellsRecord dcs bytes x) (λ x. IsRecord dcs 0 (dcs - 1) x × (bytes ≡ record_bytes dcs x)) (λ x h. (valid_record dcs bytes x h, h.spelled)) ok)
     err r (valid_record dcs bytes r is) is.spelled
 
+pub record_fits : (dcs : ℕ) (bytes : List ℕ) (result : Result Record DecodeFault) → IfOk result (λ r. SpellsRecord dcs bytes r) → IfOk result (λ r. FitsRecord (length r.dep) r)
+record_fits dcs bytes result ok = IfOk-weaker result (λ r. SpellsRecord dcs bytes r) (λ r. FitsRecord (length r.dep) r) (λ r h.
+    let P : ℕ → Type 0 = λ n. FitsRecord n r in subst P (sym h.fits.entries) h.fits) ok
+
 pub record_law : (dcs : ℕ) (a b more : List ℕ) (r s : Record) → dcs ≤ 8 → SpellsRecord dcs a r → SpellsRecord dcs b s → a ++ more ≡ b → (r ≡ s) × (more ≡ [])
 record_law dcs a b more r s small is_r is_s e =
     code_law (IsRecord dcs 0 (dcs - 1)) (record_bytes dcs) r s more (record_code dcs 0 (dcs - 1) (omega arith) (omega (arith, is_r.fits.host)))
@@ -94,6 +98,10 @@ message_only dcs bytes result some small ok err m is =
     (λ x in_x. (x, record { fits = in_x.fits; texts = in_x.texts; spelled = refl }))
     (IfOk-weaker result (λ x. SpellsMessage dcs bytes x) (λ x. IsMessage dcs x × (bytes ≡ message_bytes dcs x)) (λ x h. (valid_message dcs bytes x h, h.spelled)) ok)
     err m (valid_message dcs bytes m is) is.spelled
+
+pub message_fits : (dcs : ℕ) (bytes : List ℕ) (result : Result Message DecodeFault) → IfOk result (λ m. SpellsMessage dcs bytes m) → IfOk result (λ m. FitsMessage (length m.table) m)
+message_fits dcs bytes result ok = IfOk-weaker result (λ m. SpellsMessage dcs bytes m) (λ m. FitsMessage (length m.table) m) (λ m h.
+    let P : ℕ → Type 0 = λ n. FitsMessage n m in subst P (sym h.fits.square.rows) h.fits) ok
 
 pub message_law : (dcs : ℕ) (a b more : List ℕ) (m n : Message) → dcs ≤ 8 → SpellsMessage dcs a m → SpellsMessage dcs b n → a ++ more ≡ b → (m ≡ n) × (more ≡ [])
 message_law dcs a b more m n small is_m is_n e =

@@ -1,15 +1,14 @@
 -- The fields of a record and a message as parts: which values each may have.
-use Rattle.std.specs.Prelude.{◌≡◌, ℕ, ◌-◌, ◌<◌, ◌≤◌, ◌^◌, ◌==◌, if◌then◌else◌, Option, Some, None, List, length, All}
-use Rattle.std.specs.List.{flat_map}
+use Rattle.std.specs.Prelude.{ℕ, ◌-◌, ◌<◌, ◌^◌, ◌==◌, if◌then◌else◌, Option, Some, None, List, All}
 use Rattle.byteorder.specs.Endian.{big_bytes}
-use Rattle.cz_base.specs.Text.{IsName, IsBody}
+use Rattle.cz_base.specs.Text.{IsName}
 use Rattle.causal_deps.specs.declared.record.Kind.{Kind}
 use Rattle.causal_deps.specs.declared.record.Record.{Record}
 use Rattle.record_codec.specs.declared.message.Message.{Message}
 use Rattle.record_codec.specs.declared.reader.Own.{Own}
 use Rattle.record_codec.specs.declared.record.Head.{Head}
-use Rattle.record_codec.specs.Parts.{IsWithin, AreEach, IsSized}
-use Rattle.record_codec.specs.Wire.{kind_number, fewest_tags, most_tags, head_bytes, FitsRecord, FitsMessage, HasTexts}
+use Rattle.record_codec.specs.Parts.{IsWithin, AreEach}
+use Rattle.record_codec.specs.Wire.{kind_number, head_bytes, FitsRecord, FitsMessage, HasTexts}
 
 -- so many names
 abbrev pub AreNames : ℕ → List (List ℕ) → Type 0

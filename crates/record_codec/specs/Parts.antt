@@ -1,5 +1,5 @@
 -- Parts of a spelling: values that are allowed there, and the bytes that spell each. A word is what spells an allowed value.
-use Rattle.std.specs.Prelude.{◌≡◌, ℕ, zero, suc, ◌+◌, ◌-◌, ◌<◌, ◌≤◌, ◌^◌, ◌==◌, ◌⊎◌, if◌then◌else◌, Bool, true, None, List, [], ◌∷◌, ◌++◌, length}
+use Rattle.std.specs.Prelude.{◌≡◌, ℕ, zero, suc, ◌<◌, ◌≤◌, ◌==◌, ◌⊎◌, if◌then◌else◌, Bool, None, List, [], ◌∷◌, ◌++◌, length}
 use Rattle.cz_base.specs.Text.{first_bad}
 use Rattle.byteorder.specs.Endian.{big_bytes}
 

@@ -1,9 +1,9 @@
 -- What a read does to a reader: the bytes that are left, and how many were read.
-use Rattle.std.specs.Prelude.{◌≡◌, ℕ, ◌+◌, ◌-◌, ◌*◌, ◌/◌, ◌^◌, ◌<◌, ◌≤◌, List, ◌++◌, length}
+use Rattle.std.specs.Prelude.{◌≡◌, ℕ, ◌+◌, ◌-◌, ◌/◌, ◌^◌, ◌≤◌, List, ◌++◌, length}
 use Rattle.byteorder.specs.Endian.{big_number}
 use Rattle.record_codec.specs.declared.fault.DecodeFault.{DecodeFault}
 use Rattle.record_codec.specs.declared.fault.DecodeFault.TheVariants.{Malformed, NoMemory}
-use Rattle.record_codec.specs.Parts.{IsWord, Misses}
+use Rattle.record_codec.specs.Parts.{Misses}
 
 -- the bytes that are left, and the place of the first of them
 pub record Place : Type 0 where

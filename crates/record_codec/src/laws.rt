@@ -6,11 +6,9 @@ ghost use Rattle.record_codec.specs.Wire.{SpellsMessage, SpellsRecord};
 /// No spelling of a record is a proper front of another, and no two records share one.
 pub fn no_record_begins_another()
     ensures { (dcs : ℕ) (a b more : List ℕ) (r s : RecordValue) → dcs ≤ 8 → SpellsRecord dcs a r → SpellsRecord dcs b s → a ++ more ≡ b → (r ≡ s) × (more ≡ []) }
-{
-}
+{}
 
 /// No spelling of a message is a proper front of another, and no two messages share one.
 pub fn no_message_begins_another()
     ensures { (dcs : ℕ) (a b more : List ℕ) (m n : MessageValue) → dcs ≤ 8 → SpellsMessage dcs a m → SpellsMessage dcs b n → a ++ more ≡ b → (m ≡ n) × (more ≡ []) }
-{
-}
+{}

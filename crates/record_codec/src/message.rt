@@ -18,6 +18,7 @@ use std::alloc::Global;
 
 // The first byte of a message.
 const FORM: u32 = 1;
+
 const MAX_RECORDS: u32 = 16;
 
 /// What one datacentre sends to another: its table, and at most 16 records of its own.
@@ -46,6 +47,9 @@ pub fn decode_message(alloc: Global, bytes: &[u8], dcs: u32) -> Result<Message, 
     requires { (1 ≤ dcs) × (dcs ≤ 8) }
     // What is decoded is spelled so.
     ensures ok { IfOk result (λ message. SpellsMessage dcs bytes.now message) }
+
+    // It can be encoded again.
+    ensures fits { IfOk result (λ message. FitsMessage (length message.table) message) }
 
     // What is spelled so is decoded.
     ensures only { (message : MessageValue) → SpellsMessage dcs bytes.now message → MatchResult result (λ found. found ≡ message) (λ fault. fault ≡ OutOfMemory) }
@@ -97,7 +101,12 @@ fn read_records(reader: &mut Reader<'_>, dcs: u32, host: DcId) -> Result<Seq<Rec
     read_each(reader, dcs, host, count)
 }
 
-fn read_each(reader: &mut Reader<'_>, dcs: u32, host: DcId, count: u32) -> Result<Seq<Record>, DecodeFault>
+fn read_each(
+    reader: &mut Reader<'_>,
+    dcs: u32,
+    host: DcId,
+    count: u32,
+) -> Result<Seq<Record>, DecodeFault>
     requires dcs { (1 ≤ dcs) × (dcs ≤ 8) }
     requires host { host < dcs }
     ensures ok { IfOk result (λ records. AreRecords dcs host count records) }

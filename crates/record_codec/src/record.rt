@@ -5,7 +5,7 @@ ghost use Rattle.record_codec.specs.Fields.{head_word, IsHead, IsKind, IsRecord,
 ghost use Rattle.record_codec.specs.Parts.{IsWord};
 ghost use Rattle.record_codec.specs.Reading.{Fails, Took};
 ghost use Rattle.record_codec.specs.Starts.{IsRefused};
-ghost use Rattle.record_codec.specs.Wire.{counts_bytes, fewest_tags, head_bytes, kind_number, most_tags, record_bytes, FitsRecord, HasTexts, IsRecordText, SpellsRecord};
+ghost use Rattle.record_codec.specs.Wire.{fewest_tags, head_bytes, kind_number, most_tags, record_bytes, FitsRecord, HasTexts, IsRecordText, SpellsRecord};
 
 use crate::DecodeFault;
 use crate::reader::{MAX_COUNT, Own, Reader};
@@ -15,6 +15,7 @@ use cz_base::{DcId, NoMemory, Toid};
 use std::alloc::Global;
 
 const MAX_SESSION: u32 = 63;
+
 const MAX_INDEX: u32 = 16384;
 
 // What says whose record it is, and which.
@@ -45,6 +46,9 @@ pub fn decode_record(alloc: Global, bytes: &[u8], dcs: u32) -> Result<Record, De
     requires { (1 ≤ dcs) × (dcs ≤ 8) }
     // What is decoded is spelled so.
     ensures ok { IfOk result (λ rec. SpellsRecord dcs bytes.now rec) }
+
+    // It can be encoded again.
+    ensures fits { IfOk result (λ rec. FitsRecord (length rec.dep) rec) }
 
     // What is spelled so is decoded.
     ensures only { (rec : RecordValue) → SpellsRecord dcs bytes.now rec → MatchResult result (λ found. found ≡ rec) (λ fault. fault ≡ OutOfMemory) }
@@ -101,7 +105,12 @@ fn kind_byte(kind: Kind) -> u64
 }
 
 // Reads a record for so many datacentres whose host is in the range.
-pub fn read_record(reader: &mut Reader<'_>, dcs: u32, low: u32, high: u32) -> Result<Record, DecodeFault>
+pub fn read_record(
+    reader: &mut Reader<'_>,
+    dcs: u32,
+    low: u32,
+    high: u32,
+) -> Result<Record, DecodeFault>
     requires dcs { (1 ≤ dcs) × (dcs ≤ 8) }
     requires order { low ≤ high }
     requires hosts { high < dcs }

@@ -1,5 +1,5 @@
 -- What a sender chooses has a spelling.
-use Rattle.std.proofs.Common.{◌≡◌, ℕ, ◌<◌, ◌≤◌, ◌^◌, ◌==◌, ◌&&◌, true, List, length, take, filter, ap, sym, subst, ◌∙◌, arith, All}
+use Rattle.std.proofs.Common.{◌≡◌, ℕ, ◌<◌, ◌^◌, ◌==◌, true, List, length, filter, sym, subst, arith, All}
 use Rattle.std.specs.Prelude.{nat_lt}
 use Rattle.std.proofs.lemmas.Bool.{eqb-true, and_parts}
 use Rattle.std.proofs.lemmas.List.{length-take}
@@ -8,7 +8,7 @@ use Rattle.causal_deps.specs.Counts.{entry_of, IsSquare}
 use Rattle.causal_deps.specs.declared.record.Record.{Record}
 use Rattle.record_codec.specs.Wire.{FitsMessage, FitsRecord}
 use Rattle.sender_receiver.specs.Choosing.{is_new, first_new}
-use Rattle.sender_receiver.specs.Sending.{AreTellable, message_to}
+use Rattle.sender_receiver.specs.Sending.{AreTellable}
 
 own : (d known : ℕ) (records : List Record) → All (λ (r : Record). r.host ≡ d) (first_new d known records)
 own d known records =

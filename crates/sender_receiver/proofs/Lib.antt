@@ -2,3 +2,4 @@ pub mod Walking
 pub mod Fitting
 pub mod Placed
 pub mod OneMessage
+pub mod Least

@@ -1,5 +1,5 @@
 -- A stock: records at places that rise.
-use Rattle.std.specs.Prelude.{ℕ, suc, ◌<◌, ◌≤◌, ◌==◌, nat_lt, List, [], ◌∷◌, map, find, Option}
+use Rattle.std.specs.Prelude.{◌≡◌, ℕ, suc, ◌<◌, ◌≤◌, ◌==◌, nat_lt, List, [], ◌∷◌, map, find, Option, Contains}
 use Rattle.std.proofs.Common.{arith}
 use Rattle.std.specs.Option.{option_map}
 use Rattle.causal_deps.specs.declared.record.Record.{Record}
@@ -17,6 +17,16 @@ IsRisingFrom low (x ∷ xs) = (low < x.lid) × IsRisingFrom x.lid xs
 -- the first place above lid
 abbrev pub place_after : List Stocked → ℕ → Option ℕ
 place_after held lid = option_map (λ x. x.lid) (find (λ x. nat_lt lid x.lid) held)
+
+-- next is the least place above lid
+pub record IsLeastAbove (held : List Stocked) (lid next : ℕ) : Type 0 where
+  pub past : lid < next
+  pub there : (x : Stocked) × Contains held x × (x.lid ≡ next)
+  pub least : (x : Stocked) → Contains held x → lid < x.lid → next ≤ x.lid
+
+-- no place is above lid
+pub record IsNoneAbove (held : List Stocked) (lid : ℕ) : Type 0 where
+  pub each : (x : Stocked) → Contains held x → x.lid ≤ lid
 
 -- the record at the place lid
 abbrev pub record_at : List Stocked → ℕ → Option Record

@@ -7,10 +7,12 @@
 #![tactic(auto)]
 
 mod choosing;
+mod laws;
 mod receiver;
 mod sender;
 mod stock;
 
+pub use laws::the_next_place_is_the_least;
 pub use receiver::receive;
 pub use sender::Sender;
 pub use stock::Stock;

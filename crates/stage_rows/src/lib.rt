@@ -3,6 +3,8 @@
 #![tactic(auto)]
 
 #[cfg(test)]
+mod codec_rows;
+#[cfg(test)]
 mod filter_rows;
 #[cfg(test)]
 mod link_rows;

@@ -1,8 +1,8 @@
 -- What a filter keeps, and that it is sound by that.
-use Rattle.std.proofs.Common.{◌≡◌, ◌⊎◌, ℕ, zero, suc, ◌+◌, ◌<◌, ◌≤◌, Bool, true, false, cond, not, leb, ltb, eqb, ◌&&◌, ◌||◌, List, [], ◌∷◌, ◌++◌, length, filter, get_or, refl, ap, ap₂, sym, ◌∙◌, subst, inl, inr, arith, replicate, Option, Some, None, Contains}
-use Rattle.std.specs.List.{All, AllPairs, list_any, count_by, sum_by}
-use Rattle.std.proofs.lemmas.Bool.{cases_eq, cases_lt, cases_Bool, and_parts, and_from, or_cases, or_parts, or_left, or_right, leb-true, le-leb, eqb-true, eq-eqb, not-true, not-false, not_from_false, true≢false, cond_both, cond-true, cond-false, false_from_ne_true}
-use Rattle.std.proofs.lemmas.List.Elements.{All-cons, All-head, All-tail, All-weaker, All-append, All-filter, All-contains, filter_passes, Contains-append_cases, Contains-append_left, Contains-append_right}
+use Rattle.std.proofs.Common.{◌≡◌, ◌⊎◌, ℕ, zero, suc, ◌<◌, ◌≤◌, Bool, true, false, cond, not, leb, ◌&&◌, List, [], ◌∷◌, length, filter, get_or, refl, ap, ap₂, sym, ◌∙◌, subst, inl, inr, arith, replicate, Contains}
+use Rattle.std.specs.List.{All, AllPairs, count_by}
+use Rattle.std.proofs.lemmas.Bool.{cases_eq, cases_lt, cases_Bool, and_parts, and_from, or_cases, or_parts, or_left, or_right, leb-true, le-leb, eq-eqb, not-true, not_from_false, true≢false, cond-true, cond-false, false_from_ne_true}
+use Rattle.std.proofs.lemmas.List.Elements.{All-cons, All-head, All-tail, All-weaker, All-contains, Contains-append_cases, Contains-append_left, Contains-append_right}
 use Rattle.std.proofs.lemmas.List.{length-replicate}
 use Rattle.std.proofs.lemmas.List.Sums.{sum_by-cons}
 use Rattle.std.proofs.lemmas.List.Kept.{AllPairs-cons, AllPairs-filter}
@@ -10,13 +10,12 @@ use Rattle.causal_deps.specs.declared.record.Record.{Record}
 use Rattle.causal_deps.specs.declared.record.Item.{Item}
 use Rattle.causal_deps.proofs.Lists.{Contains-cons, Contains-here, Contains-there, Contains-filter}
 use Rattle.toid_filter.specs.declared.champions.Share.{Share}
-use Rattle.toid_filter.specs.declared.filter.Mark.{Mark}
 use Rattle.toid_filter.specs.declared.filter.Verdict.{Verdict}
 use Rattle.toid_filter.specs.declared.filter.Verdict.TheVariants.{Passed, Held, Dropped}
 use Rattle.toid_filter.specs.Champions.{champion}
-use Rattle.toid_filter.specs.Filters.{FilterState, new_filter, owns, is_passed, has_name, is_held, is_known, times_passed, times_held, all_below, is_done, is_met, is_held_back, is_free, is_due, due, not_due, reached_by, released, stands_before, with_held, IsTaken, Fits, IsTidy, IsSteady, IsSound}
+use Rattle.toid_filter.specs.Filters.{FilterState, new_filter, owns, is_passed, has_name, is_held, is_known, times_passed, times_held, all_below, is_done, is_met, is_held_back, is_free, is_due, due, not_due, released, stands_before, with_held, IsTaken, Fits, IsTidy, IsSteady, IsSound}
 use Rattle.toid_filter.proofs.Tests.{all_below_at, all_below_from, settled_gives, settled_from, name_parts, name_from, before_parts, before_from_host, before_from_toid, not_before, before_trans, held_back_below, any_gives, any_from, filter_keeps, all_from_contains, pairs_parts, pairs_append}
-use Rattle.toid_filter.proofs.Reached.{reached_length, reached_more, reached_covers, reached_cases}
+use Rattle.toid_filter.proofs.Reached.{reached_length, reached_cases}
 
 pub passed_parts : (f : FilterState) (h t : ℕ) → is_passed f h t ≡ true → (1 ≤ t) × (t ≤ get_or f.reached h 0) × (owns f h t ≡ true)
 passed_parts f h t is =

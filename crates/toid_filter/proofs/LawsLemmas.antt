@@ -1,24 +1,23 @@
 -- Lists of takes.
-use Rattle.std.proofs.Common.{◌≡◌, ◌≢◌, ◌⊎◌, ℕ, zero, suc, ◌+◌, ◌<◌, ◌≤◌, Bool, true, false, cond, not, leb, ltb, eqb, ◌&&◌, ◌||◌, List, [], ◌∷◌, ◌++◌, length, map, filter, get_or, set, refl, ap, ap₂, sym, ◌∙◌, subst, inl, inr, arith, Option, Contains, append_assoc, append-nil}
+use Rattle.std.proofs.Common.{◌≡◌, ◌≢◌, ℕ, zero, suc, ◌+◌, ◌<◌, ◌≤◌, Bool, true, false, cond, not, eqb, ◌||◌, List, [], ◌∷◌, ◌++◌, length, map, get_or, set, refl, ap, ap₂, sym, ◌∙◌, subst, inl, inr, arith, Option, Contains, append_assoc, append-nil}
 use Rattle.std.specs.List.{All, AllPairs, count_by, sum_by}
-use Rattle.std.proofs.lemmas.Bool.{cases_eq, cases_lt, cases_Bool, and_cases, or_cases, or_left, or_right, or_parts, not-true, not-false, not_from_true, not_from_false, true≢false, cond-true, cond-false, eqb-true, eq-eqb, false_from_ne_true, true_from_ne_false}
+use Rattle.std.proofs.lemmas.Bool.{cases_eq, cases_lt, cases_Bool, and_cases, or_cases, or_left, or_right, or_parts, not-false, not_from_false, true≢false, cond-true, cond-false, eqb-true, eq-eqb, false_from_ne_true}
 use Rattle.std.proofs.lemmas.List.{get_or-set_same, get_or-set_other, length-set, get_or_default}
-use Rattle.std.proofs.lemmas.List.Elements.{All-nil, All-cons, All-head, All-tail, All-append, All-weaker, All-contains, Contains-get_or}
+use Rattle.std.proofs.lemmas.List.Elements.{All-nil, All-cons, All-append, All-contains}
 use Rattle.std.proofs.lemmas.List.Kept.{AllPairs-filter}
 use Rattle.std.proofs.lemmas.List.Sums.{sum_by-cons, sum_by-append}
 use Rattle.causal_deps.specs.declared.record.Record.{Record}
-use Rattle.causal_deps.specs.declared.record.Item.{Item}
 use Rattle.causal_deps.specs.declared.record.Item.TheVariants.{External}
 use Rattle.causal_deps.proofs.Lists.{Contains-filter}
 use Rattle.toid_filter.specs.declared.champions.Share.{Share}
 use Rattle.toid_filter.specs.declared.filter.Verdict.{Verdict}
 use Rattle.toid_filter.specs.declared.filter.Verdict.TheVariants.{Passed, Held, Dropped}
 use Rattle.toid_filter.specs.Champions.{champion}
-use Rattle.toid_filter.specs.Filters.{FilterState, Announcement, no_filter, filter_at, owns, is_passed, has_name, is_held, is_known, times_passed, all_below, is_done, is_free, is_held_back, is_due, due, not_due, reached_by, released, stands_before, with_held, with_record, mark_accepted, IsTaken, Fits, IsTidy, IsSteady, IsSound, AreSound}
-use Rattle.toid_filter.specs.Laws.{AreTaken, AreTakenByChampions, with_filter, HasPassed, Waits}
-use Rattle.toid_filter.proofs.Tests.{all_below_from, settled_from, filter_keeps, all_from_contains, name_parts, name_from, before_parts, pairs_append}
+use Rattle.toid_filter.specs.Filters.{FilterState, Announcement, no_filter, filter_at, owns, is_passed, has_name, is_held, is_known, times_passed, all_below, is_done, is_free, is_held_back, is_due, due, reached_by, released, stands_before, with_held, with_record, mark_accepted, IsTaken, Fits, IsTidy, IsSteady, IsSound, AreSound}
+use Rattle.toid_filter.specs.Laws.{AreTaken, AreTakenByChampions, HasPassed, Waits}
+use Rattle.toid_filter.proofs.Tests.{filter_keeps, all_from_contains, name_parts, name_from, before_parts, pairs_append}
 use Rattle.toid_filter.proofs.Reached.{reached_more, reached_covers}
-use Rattle.toid_filter.proofs.FilterLemmas.{passed_parts, passed_from, held_parts, held_from, free_from, own_is, with_gives, with_keeps, with_has, known_more, tidy_with, released_steady, passed_known, unpassed_then, taken_steady, steady_sound, count_none, count_once}
+use Rattle.toid_filter.proofs.FilterLemmas.{passed_parts, passed_from, held_parts, held_from, own_is, with_has, known_more, tidy_with, passed_known, unpassed_then, taken_steady, steady_sound, count_none, count_once}
 use Rattle.toid_filter.proofs.Running.{above_reached}
 
 -- What passes where all that is due passes.

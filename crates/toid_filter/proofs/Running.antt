@@ -1,15 +1,15 @@
 -- The held records that follow on one that passes, and the filter afterwards.
-use Rattle.std.proofs.Common.{◌≡◌, ◌⊎◌, ◌↔◌, ℕ, zero, suc, ◌+◌, ◌-◌, ◌<◌, ◌≤◌, Bool, true, false, cond, not, leb, ltb, eqb, ◌&&◌, ◌||◌, List, [], ◌∷◌, ◌++◌, length, map, filter, take, drop, get_or, refl, ap, ap₂, sym, ◌∙◌, subst, inl, inr, arith, add-one, Option, Some, None, slice_get, Contains, append-nil, append_assoc}
+use Rattle.std.proofs.Common.{◌≡◌, ◌↔◌, ℕ, zero, suc, ◌+◌, ◌-◌, ◌<◌, ◌≤◌, Bool, true, false, cond, not, ◌&&◌, ◌||◌, List, [], ◌∷◌, ◌++◌, length, map, filter, take, drop, get_or, refl, ap, ap₂, sym, ◌∙◌, subst, inl, inr, arith, add-one, Option, Some, None, slice_get, Contains, append-nil, append_assoc}
 use Rattle.std.specs.List.{All, AllPairs, slice_range, remove_range}
 use Rattle.std.specs.List.Sorted.{IsPartitionPoint, IsPartitionedBy}
 use Rattle.std.specs.Option.{option_map_or}
 use Rattle.std.specs.Bool.{IsTrue}
 use Rattle.std.proofs.Math.Seq.{drop-cons}
-use Rattle.std.proofs.lemmas.Bool.{cases_eq, cases_lt, cases_Bool, and_parts, and_from, and_left, and_right, or_cases, or_parts, or_left, or_right, le-leb, not-true, not_from_true, not_from_false, true≢false, eq-eqb, eqb-true, false_from_ne_true}
+use Rattle.std.proofs.lemmas.Bool.{cases_eq, cases_lt, cases_Bool, or_cases, or_parts, or_left, or_right, not_from_true, not_from_false, true≢false, eq-eqb, eqb-true, false_from_ne_true}
 use Rattle.std.proofs.lemmas.List.{length-drop, length-take-le, get_or-drop, get_or-take, get_or_default, take-append-drop, take_all, drop-drop}
 use Rattle.std.proofs.lemmas.List.Folds.{drop_split}
-use Rattle.std.proofs.lemmas.List.Elements.{All-nil, All-cons, All-head, All-tail, All-take, All-drop, All-weaker, All-more, All-contains, filter-append, Contains-append_cases, Contains-append_left}
-use Rattle.std.proofs.lemmas.Option.{slice_get_within, get_or_from_slice_get}
+use Rattle.std.proofs.lemmas.List.Elements.{All-nil, All-head, All-tail, All-take, All-drop, All-weaker, All-more, All-contains, filter-append, Contains-append_cases, Contains-append_left}
+use Rattle.std.proofs.lemmas.Option.{get_or_from_slice_get}
 use Rattle.causal_deps.specs.declared.record.Record.{Record}
 use Rattle.causal_deps.specs.declared.record.Item.{Item}
 use Rattle.causal_deps.specs.declared.record.Item.TheVariants.{External}
@@ -17,9 +17,9 @@ use Rattle.causal_deps.specs.Counts.{raised}
 use Rattle.causal_deps.proofs.Lists.{Contains-slice_get, Contains-cons}
 use Rattle.toid_filter.specs.declared.filter.Verdict.TheVariants.{Passed, Held}
 use Rattle.toid_filter.specs.Champions.{champion, Serves}
-use Rattle.toid_filter.specs.Filters.{FilterState, owns, is_passed, has_name, is_held, is_known, all_below, is_done, is_met, is_held_back, is_free, is_due, due, not_due, reached_by, released, stands_before, with_held, IsTaken, Fits, Follows, IsTidy, IsSteady, IsSound}
-use Rattle.toid_filter.proofs.Tests.{all_below_at, all_below_from, settled_gives, settled_from, name_parts, name_from, before_parts, before_from_host, before_from_toid, not_before, before_trans, all_from_contains, pairs_parts}
-use Rattle.toid_filter.proofs.FilterLemmas.{passed_parts, passed_from, held_parts, held_from, due_parts, due_from, free_parts, free_from, met_gives, done_met, due_below, with_gives, with_keeps, with_has, met_more, due_before, taken_steady, steady_sound}
+use Rattle.toid_filter.specs.Filters.{FilterState, owns, is_passed, has_name, is_held, is_known, all_below, is_done, is_met, is_held_back, is_free, is_due, due, not_due, reached_by, stands_before, with_held, IsTaken, Fits, Follows, IsSteady, IsSound}
+use Rattle.toid_filter.proofs.Tests.{all_below_from, settled_gives, settled_from, name_parts, name_from, before_parts, not_before, before_trans, all_from_contains, pairs_parts}
+use Rattle.toid_filter.proofs.FilterLemmas.{passed_parts, passed_from, held_parts, held_from, due_parts, due_from, free_parts, met_gives, done_met, due_below, with_gives, with_keeps, with_has, met_more, due_before, taken_steady, steady_sound}
 use Rattle.toid_filter.proofs.Reached.{raised_length}
 
 abbrev IsPlace : ℕ → ℕ → List Record → ℕ → Type 0

@@ -1,7 +1,7 @@
 -- What the tests on numbers and records say.
-use Rattle.std.proofs.Common.{◌≡◌, ◌⊎◌, ℕ, zero, suc, ◌+◌, ◌<◌, ◌≤◌, Bool, true, false, cond, not, leb, ltb, eqb, ◌&&◌, ◌||◌, List, [], ◌∷◌, ◌++◌, length, filter, get_or, refl, ap, sym, ◌∙◌, subst, inl, inr, arith, Option, Some, None, Contains}
-use Rattle.std.specs.List.{All, AllPairs, list_any, count_by}
-use Rattle.std.proofs.lemmas.Bool.{cases_eq, cases_lt, cases_Bool, and_parts, and_from, and_left, and_cases, or_cases, or_left, or_right, eqb-true, eq-eqb, leb-true, le-leb, leb-false, lt-leb, ltb-true, lt-ltb, le-ltb, not-true, not_from_false, true≢false, ne_eqb, false_from_ne_true}
+use Rattle.std.proofs.Common.{◌≡◌, ◌⊎◌, ℕ, zero, suc, ◌<◌, ◌≤◌, Bool, true, false, cond, not, leb, ltb, eqb, ◌&&◌, ◌||◌, List, [], ◌∷◌, ◌++◌, filter, get_or, refl, ap, sym, ◌∙◌, inl, inr, arith, Option, Some, None, Contains}
+use Rattle.std.specs.List.{All, AllPairs, list_any}
+use Rattle.std.proofs.lemmas.Bool.{cases_eq, cases_lt, cases_Bool, and_parts, and_from, and_left, and_cases, or_cases, or_left, or_right, eqb-true, eq-eqb, leb-true, leb-false, ltb-true, lt-ltb, not-true, not_from_false, true≢false, false_from_ne_true}
 use Rattle.std.proofs.lemmas.List.Elements.{All-head, All-tail, All-append, Contains-get_or}
 use Rattle.std.proofs.lemmas.List.Kept.{AllPairs-cons}
 use Rattle.causal_deps.specs.declared.record.Record.{Record}

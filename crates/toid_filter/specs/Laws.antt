@@ -1,5 +1,5 @@
 -- Lists of takes, by one filter and by all filters of a datacentre.
-use Rattle.std.specs.Prelude.{◌≡◌, ◌⊎◌, ℕ, ◌+◌, ◌<◌, ◌≤◌, true, false, List, [], ◌∷◌, ◌++◌, length, map, slice_index, slice_set, count_by, All}
+use Rattle.std.specs.Prelude.{◌≡◌, ◌⊎◌, ℕ, ◌+◌, ◌<◌, ◌≤◌, true, false, List, [], ◌∷◌, ◌++◌, map, slice_index, slice_set, count_by, All}
 use Rattle.std.specs.List.{AllPairs}
 use Rattle.causal_deps.specs.declared.record.Record.{Record}
 use Rattle.causal_deps.specs.declared.record.Item.TheVariants.{External}

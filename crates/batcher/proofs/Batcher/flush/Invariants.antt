@@ -1,4 +1,4 @@
-use Rattle.std.proofs.Common.{◌≡◌, ◌+◌, ◌≤◌, length, map, vec_capacity, vec_len}
+use Rattle.std.proofs.Common.{◌≡◌, ◌≤◌, length, map, vec_capacity, vec_len}
 use Rattle.batcher.specs.Batchers.{parcel_of}
 use Rattle.batcher.proofs.Batcher.flush.Given as goal
 

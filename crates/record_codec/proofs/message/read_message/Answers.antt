@@ -20,18 +20,18 @@ pub returns-in_err-table-clause-fault : goal.returns-in_err-table-clause-fault
 returns-in_err-table-clause-fault c =
     exits c.from_residual-in_err-table.result _ c.from_residual-in_err-table.ensures.1 c.in_err-table.ensures.fault
     (table_fails _ c.requires.0 c.requires.1 c.in_ok-small.ensures.ok c.in_ok-small.ensures.took c.in_ok-from.ensures.ok c.in_ok-from.ensures.took
-      c.in_ok-small-2.ensures.ok c.in_ok-small-2.ensures.took)
+    c.in_ok-small-2.ensures.ok c.in_ok-small-2.ensures.took)
 
 pub returns-in_err-records-clause-fault : goal.returns-in_err-records-clause-fault
 returns-in_err-records-clause-fault c =
     exits c.from_residual-in_err-records.result _ c.from_residual-in_err-records.ensures.1 c.in_err-records.ensures.fault
     (records_fails _ _ c.requires.0 c.requires.1 c.in_ok-small.ensures.ok c.in_ok-small.ensures.took c.in_ok-from.ensures.ok c.in_ok-from.ensures.took
-      c.in_ok-small-2.ensures.ok c.in_ok-small-2.ensures.took c.in_ok-table.ensures.ok c.in_ok-table.ensures.took)
+    c.in_ok-small-2.ensures.ok c.in_ok-small-2.ensures.took c.in_ok-table.ensures.ok c.in_ok-table.ensures.took)
 
 pub returns-clause-ok : goal.returns-clause-ok
 returns-clause-ok c = message_of_parts _ _ (omega (arith, c.in_ok-from.ensures.ok.greatest, c.requires.0)) c.in_ok-table.ensures.ok c.in_ok-records.ensures.ok
 
 pub returns-clause-took : goal.returns-clause-took
 returns-clause-took c =
-    message_took _ _ _ _ c.in_ok-small.ensures.ok c.in_ok-small.ensures.took c.in_ok-from.ensures.took c.in_ok-small-2.ensures.ok c.in_ok-small-2.ensures.took
+    message_took _ _ _ (record { from = c.in_ok-from.from; table = c.in_ok-table.table; records = c.in_ok-records.records }) c.in_ok-small.ensures.ok c.in_ok-small.ensures.took c.in_ok-from.ensures.took c.in_ok-small-2.ensures.ok c.in_ok-small-2.ensures.took
     c.in_ok-table.ensures.took c.in_ok-records.ensures.took

@@ -7,5 +7,7 @@ pub returns-then-low-unknown : goal.returns-then-low-unknown
 returns-then-low-unknown c = tested_both _ _ _ _ _ _ c.read_uint-number.ensures c.if-low-unknown.true
 
 pub returns-else-low-unknown : goal.returns-else-low-unknown
-returns-else-low-unknown c = (λ h. let le = leb-true _ _ h in absurd (omega arith),
-  λ h. absurd (tested_low _ _ _ _ _ _ c.read_uint-number.ensures c.if-low-unknown.false h))
+returns-else-low-unknown c = (
+  λ h. let le = leb-true _ _ h in absurd (omega arith),
+  λ h. absurd (tested_low _ _ _ _ _ _ c.read_uint-number.ensures c.if-low-unknown.false h),
+)

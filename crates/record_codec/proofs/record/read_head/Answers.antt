@@ -21,16 +21,16 @@ pub returns-in_err-session-clause-fault : goal.returns-in_err-session-clause-fau
 returns-in_err-session-clause-fault c =
     exits c.from_residual-in_err-session.result _ c.from_residual-in_err-session.ensures.1 c.in_err-session.ensures.fault
     (session_fails _ _ (omega arith) (omega arith) c.in_ok-small.ensures.ok c.in_ok-small.ensures.took c.in_ok-host.ensures.ok c.in_ok-host.ensures.took
-      c.in_ok-toid.ensures.ok c.in_ok-toid.ensures.took)
+    c.in_ok-toid.ensures.ok c.in_ok-toid.ensures.took)
 
 pub returns-in_err-index-clause-fault : goal.returns-in_err-index-clause-fault
 returns-in_err-index-clause-fault c =
     exits c.from_residual-in_err-index.result _ c.from_residual-in_err-index.ensures.1 c.in_err-index.ensures.fault
     (index_fails _ _ (omega arith) (omega arith) c.in_ok-small.ensures.ok c.in_ok-small.ensures.took c.in_ok-host.ensures.ok c.in_ok-host.ensures.took
-      c.in_ok-toid.ensures.ok c.in_ok-toid.ensures.took c.in_ok-session.ensures.ok c.in_ok-session.ensures.took)
+    c.in_ok-toid.ensures.ok c.in_ok-toid.ensures.took c.in_ok-session.ensures.ok c.in_ok-session.ensures.took)
 
 pub returns-in_err-kind-clause-fault : goal.returns-in_err-kind-clause-fault
 returns-in_err-kind-clause-fault c =
     exits c.from_residual-in_err-kind.result _ c.from_residual-in_err-kind.ensures.1 c.in_err-kind.ensures.fault
     (last_fails _ _ (omega arith) (omega arith) c.in_ok-small.ensures.ok c.in_ok-small.ensures.took c.in_ok-host.ensures.ok c.in_ok-host.ensures.took
-      c.in_ok-toid.ensures.ok c.in_ok-toid.ensures.took c.in_ok-session.ensures.ok c.in_ok-session.ensures.took c.in_ok-index.ensures.ok c.in_ok-index.ensures.took)
+    c.in_ok-toid.ensures.ok c.in_ok-toid.ensures.took c.in_ok-session.ensures.ok c.in_ok-session.ensures.took c.in_ok-index.ensures.ok c.in_ok-index.ensures.took)

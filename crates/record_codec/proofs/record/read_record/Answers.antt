@@ -10,20 +10,20 @@ pub returns-in_err-dep-clause-fault : goal.returns-in_err-dep-clause-fault
 returns-in_err-dep-clause-fault c =
     exits c.from_residual-in_err-dep.result _ c.from_residual-in_err-dep.ensures.1 c.in_err-dep.ensures.fault
     (dep_fails _ _ _ (record { host = c.number.result; count = c.in_ok-host.field-0.toid - 1 }) _ (omega arith) c.requires.hosts c.number.ensures.value refl
-      c.in_ok-host.ensures.ok c.in_ok-host.ensures.took)
+    c.in_ok-host.ensures.ok c.in_ok-host.ensures.took)
 
 pub returns-in_err-tags-clause-fault : goal.returns-in_err-tags-clause-fault
 returns-in_err-tags-clause-fault c =
     exits c.from_residual-in_err-tags.result _ c.from_residual-in_err-tags.ensures.1 c.in_err-tags.ensures.fault
     (tags_fails _ _ _ _ _ (record { host = c.number.result; count = c.in_ok-host.field-0.toid - 1 }) _ _ (omega arith) c.requires.hosts c.number.ensures.value refl
-      c.in_ok-host.ensures.ok c.in_ok-host.ensures.took c.in_ok-dep.ensures.ok c.in_ok-dep.ensures.took c.fewest.ensures c.most.ensures)
+    c.in_ok-host.ensures.ok c.in_ok-host.ensures.took c.in_ok-dep.ensures.ok c.in_ok-dep.ensures.took c.fewest.ensures c.most.ensures)
 
 pub returns-in_err-body-clause-fault : goal.returns-in_err-body-clause-fault
 returns-in_err-body-clause-fault c =
     exits c.from_residual-in_err-body.result _ c.from_residual-in_err-body.ensures.1 c.in_err-body.ensures.fault
     (body_fails _ _ _ _ _ (record { host = c.number.result; count = c.in_ok-host.field-0.toid - 1 }) _ _ _ (omega arith) c.requires.hosts c.number.ensures.value refl
-      c.in_ok-host.ensures.ok c.in_ok-host.ensures.took c.in_ok-dep.ensures.ok c.in_ok-dep.ensures.took c.fewest.ensures c.most.ensures
-      c.in_ok-tags.ensures.ok c.in_ok-tags.ensures.took)
+    c.in_ok-host.ensures.ok c.in_ok-host.ensures.took c.in_ok-dep.ensures.ok c.in_ok-dep.ensures.took c.fewest.ensures c.most.ensures
+    c.in_ok-tags.ensures.ok c.in_ok-tags.ensures.took)
 
 pub returns-clause-ok : goal.returns-clause-ok
 returns-clause-ok c =

@@ -1,4 +1,4 @@
-use Rattle.std.proofs.Common.{◌≡◌, sym, ◌∙◌, arith}
+use Rattle.std.proofs.Common.{sym, ◌∙◌, arith}
 use Rattle.sender_receiver.proofs.Walking.{begun, is_there, fewer, told, passed, full, ended}
 use Rattle.sender_receiver.proofs.choosing.first_news.Goals as goal
 use Rattle.sender_receiver.proofs.choosing.first_news.Goals.{else-places-test, then-places-test+in_default}

@@ -19,4 +19,3 @@ returns-in-Err-Byte-clause-fault c =
     let bad = (c.in-Err-Byte.ensures.byte c.in-Err-Byte.at).0 (err_of (List ℕ) c.in-Err-Byte.field-0-is) in
     fails_bad is_body_byte _ _ 65 _ _ _ refl c.front-here.ensures bad.1
     (c.malformed-in-Err-Byte.ensures ∙ ap (λ (k : ℕ). Malformed (c.args.self.now.at + k)) c.in-Err-Byte.at-is)
-

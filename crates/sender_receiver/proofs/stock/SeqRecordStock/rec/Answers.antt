@@ -1,4 +1,3 @@
-use Rattle.std.proofs.Common.{sym, ◌∙◌, arith}
 use Rattle.sender_receiver.proofs.Placed.{place_within, read_at, not_missing}
 use Rattle.sender_receiver.proofs.stock.SeqRecordStock.rec.Goals as goal
 

@@ -1,4 +1,4 @@
-use Rattle.std.proofs.Common.{◌∙◌, ◌≡◌, ap, sym, subst, length, true, false, arith, rules}
+use Rattle.std.proofs.Common.{◌∙◌, ◌≡◌, ap, sym, subst, length, true, false, rules}
 use Rattle.toid_filter.specs.Filters.{FilterState, IsSteady}
 use Rattle.toid_filter.proofs.Running.{walk_starts, walk_goes, walk_stops, walk_due, walk_ends}
 use Rattle.toid_filter.proofs.filter.Filter.due_until.Goals as goal

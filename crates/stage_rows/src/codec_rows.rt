@@ -1,0 +1,140 @@
+use record_codec::{DecodeFault, decode_message, decode_record, encode_message, encode_record};
+use std::alloc::{AllocError, Global};
+use std::process::Abort;
+use std::test::Fail;
+
+// The record B:1 of session 0 and index 1, an append for two datacentres with the body `hi`.
+const RECORD: [u8; 38] = [
+    2, 1, 0, 0, 0, 0, 0, 0, 0, 1, 0, 0, 0, 0, 0, 1, 1, 0, 0, 0, 0, 0, 0, 0, 1, 0, 0, 0, 0, 0, 0, 0,
+    0, 0, 0, 2, b'h', b'i',
+];
+
+// The bytes of a record A:1 for two datacentres up to its number of tags.
+const HEAD: [u8; 33] = [
+    2, 0, 0, 0, 0, 0, 0, 0, 0, 1, 0, 0, 0, 0, 0, 1, 1, 0, 0, 0, 0, 0, 0, 0, 0, 0, 0, 0, 0, 0, 0, 0,
+    0,
+];
+
+// The bytes before the records of a message from A between two datacentres.
+fn start(alloc: Global, records: u8) -> Result<Vec<u8>, AllocError> {
+    let mut bytes = Vec::new(alloc);
+    bytes.extend_from_slice(&[1, 0, 2])?;
+    bytes.extend_from_slice(&[0; 32])?;
+    bytes.push(records)?;
+    Ok(bytes)
+}
+
+// A message from A with a record A:1 that begins with these bytes.
+fn with_record(alloc: Global, record: &[u8]) -> Result<Vec<u8>, AllocError> {
+    let mut bytes = start(alloc, 1)?;
+    bytes.extend_from_slice(record)?;
+    Ok(bytes)
+}
+
+// The head of a record A:1 with one byte changed.
+fn changed(place: usize, byte: u8) -> [u8; 33] {
+    let mut head = HEAD;
+    if let Some(old) = head.get_mut(place) {
+        *old = byte;
+    }
+    head
+}
+
+// The place at which a message between two datacentres is malformed.
+fn message_fault(alloc: Global, bytes: &[u8]) -> Option<usize> {
+    match decode_message(alloc, bytes, 2) {
+        Err(DecodeFault::Malformed { at }) => Some(at),
+        _ => None,
+    }
+}
+
+#[test]
+fn a_record_has_its_38_bytes(rt: HostRuntime) -> Result<(), Fail> {
+    let alloc = rt.alloc();
+    let rec = decode_record(alloc, &RECORD, 2)?;
+    assert_eq!(rt; rec.host.number(), 1);
+    assert_eq!(rt; rec.toid, 1);
+    assert_eq!(rt; rec.session, 0);
+    assert_eq!(rt; rec.index, 1);
+    assert_eq!(rt; rec.tags.len(), 0);
+    assert_eq!(rt; rec.body.as_bytes(), &b"hi"[..]);
+    let again = encode_record(alloc, &rec)?;
+    assert_eq!(rt; again.as_slice(), &RECORD[..]);
+    let short = decode_record(alloc, &RECORD[..37], 2).err();
+    assert_eq!(rt; short, Some(DecodeFault::Malformed { at: 37 }));
+    Ok(())
+}
+
+#[test]
+fn malformed_messages_are_told_at_their_place(rt: HostRuntime) -> Result<(), Fail> {
+    let alloc = rt.alloc();
+    assert_eq!(rt; message_fault(alloc, &[]), Some(0));
+    assert_eq!(rt; message_fault(alloc, &[2]), Some(0));
+    assert_eq!(rt; message_fault(alloc, &[1, 5]), Some(1));
+    assert_eq!(rt; message_fault(alloc, &[1, 0, 3]), Some(2));
+    assert_eq!(rt; message_fault(alloc, &[1, 0, 2, 0, 1]), Some(4));
+    assert_eq!(rt; message_fault(alloc, &start(alloc, 17)?), Some(35));
+    let mut more = start(alloc, 0)?;
+    assert_eq!(rt; message_fault(alloc, &more), None);
+    more.push(0)?;
+    assert_eq!(rt; message_fault(alloc, &more), Some(36));
+    Ok(())
+}
+
+#[test]
+fn malformed_records_are_told_at_their_place(rt: HostRuntime) -> Result<(), Fail> {
+    let alloc = rt.alloc();
+    let other = with_record(alloc, &[2, 1])?;
+    assert_eq!(rt; message_fault(alloc, &other), Some(37));
+    for (place, byte, at) in [(9, 0, 45), (11, 64, 47), (16, 9, 52), (24, 1, 60)] {
+        let bytes = with_record(alloc, &changed(place, byte))?;
+        assert_eq!(rt; message_fault(alloc, &bytes), Some(at));
+    }
+    let mut tagged = with_record(alloc, &HEAD)?;
+    tagged.extend_from_slice(&[1, 0])?;
+    assert_eq!(rt; message_fault(alloc, &tagged), Some(70));
+    Ok(())
+}
+
+// A message from A of records without tags and with equal bodies, one after the other.
+fn message_of(alloc: Global, records: u8, body_len: u16) -> Result<Vec<u8>, AllocError> {
+    let mut bytes = start(alloc, records)?;
+    for before in 0..records {
+        let mut head = changed(9, before + 1);
+        head[24] = before;
+        bytes.extend_from_slice(&head)?;
+        bytes.push(0)?;
+        bytes.extend_from_slice(&body_len.to_be_bytes())?;
+        for _ in 0..body_len {
+            bytes.push(b'x')?;
+        }
+    }
+    Ok(bytes)
+}
+
+#[test]
+fn a_long_message_is_decoded_whole(rt: HostRuntime) -> Result<(), Fail> {
+    let alloc = rt.alloc();
+    let mut bytes = message_of(alloc, 16, 1024)?;
+    assert_eq!(rt; bytes.len(), 16996);
+    let message = decode_message(alloc, &bytes, 2)?;
+    assert_eq!(rt; message.records.len(), 16);
+    let again = encode_message(alloc, &message)?;
+    assert!(rt; again.as_slice() == bytes.as_slice());
+    bytes.push(b'x')?;
+    assert_eq!(rt; message_fault(alloc, &bytes), Some(16996));
+    bytes.pop();
+    bytes.pop();
+    assert_eq!(rt; message_fault(alloc, &bytes), Some(16995));
+    Ok(())
+}
+
+#[test]
+fn each_front_of_a_message_is_malformed_at_its_end(rt: HostRuntime) -> Result<(), Fail> {
+    let alloc = rt.alloc();
+    let bytes = message_of(alloc, 4, 100)?;
+    for len in 0..bytes.len() {
+        assert_eq!(rt; message_fault(alloc, &bytes[..len]), Some(len));
+    }
+    Ok(())
+}
