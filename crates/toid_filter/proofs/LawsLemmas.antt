@@ -1,8 +1,9 @@
 -- Lists of takes.
-use Rattle.std.proofs.Common.{◌≡◌, ◌≢◌, ℕ, zero, suc, ◌+◌, ◌<◌, ◌≤◌, Bool, true, false, cond, not, eqb, ◌||◌, List, [], ◌∷◌, ◌++◌, length, map, get_or, set, refl, ap, ap₂, sym, ◌∙◌, subst, inl, inr, arith, Option, Contains, append_assoc, append-nil}
+use Rattle.std.proofs.Common.{◌≡◌, ◌≢◌, ◌⊎◌, ℕ, zero, suc, ◌+◌, ◌-◌, ◌<◌, ◌≤◌, Bool, true, false, cond, not, eqb, leb, ◌||◌, List, [], ◌∷◌, ◌++◌, length, map, get_or, set, refl, ap, ap₂, sym, ◌∙◌, subst, inl, inr, arith, Option, None, Some, Contains, replicate, append_assoc, append-nil}
 use Rattle.std.specs.List.{All, AllPairs, count_by, sum_by}
 use Rattle.std.proofs.lemmas.Bool.{cases_eq, cases_lt, cases_Bool, and_cases, or_cases, or_left, or_right, or_parts, not-false, not_from_false, true≢false, cond-true, cond-false, eqb-true, eq-eqb, false_from_ne_true}
-use Rattle.std.proofs.lemmas.List.{get_or-set_same, get_or-set_other, length-set, get_or_default}
+use Rattle.std.proofs.lemmas.List.{get_or-set_same, get_or-set_other, length-set, length-replicate, get_or_default}
+use Rattle.std.proofs.lemmas.Nat.{mod_below}
 use Rattle.std.proofs.lemmas.List.Elements.{All-nil, All-cons, All-append, All-contains}
 use Rattle.std.proofs.lemmas.List.Kept.{AllPairs-filter}
 use Rattle.std.proofs.lemmas.List.Sums.{sum_by-cons, sum_by-append}
@@ -12,12 +13,12 @@ use Rattle.causal_deps.proofs.Lists.{Contains-filter}
 use Rattle.toid_filter.specs.declared.champions.Share.{Share}
 use Rattle.toid_filter.specs.declared.filter.Verdict.{Verdict}
 use Rattle.toid_filter.specs.declared.filter.Verdict.TheVariants.{Passed, Held, Dropped}
-use Rattle.toid_filter.specs.Champions.{champion}
-use Rattle.toid_filter.specs.Filters.{FilterState, Announcement, no_filter, filter_at, owns, is_passed, has_name, is_held, is_known, times_passed, all_below, is_done, is_free, is_held_back, is_due, due, reached_by, released, stands_before, with_held, with_record, mark_accepted, IsTaken, Fits, IsTidy, IsSteady, IsSound, AreSound}
-use Rattle.toid_filter.specs.Laws.{AreTaken, AreTakenByChampions, HasPassed, Waits}
+use Rattle.toid_filter.specs.Champions.{champion, dealt_by, dealt_from, first_map, last_share, last_of_shares, sole_share}
+use Rattle.toid_filter.specs.Filters.{FilterState, Announcement, no_filter, new_filter, filter_at, owns, is_passed, has_name, is_held, is_known, times_passed, all_below, is_done, is_free, is_held_back, is_due, due, reached_by, released, stands_before, with_held, with_record, mark_accepted, IsTaken, Fits, IsTidy, IsSteady, IsSound, AreSound}
+use Rattle.toid_filter.specs.Laws.{AreTaken, AreTakenByChampions, HasPassed, HavePassed, IsKnownToChampion, Waits}
 use Rattle.toid_filter.proofs.Tests.{filter_keeps, all_from_contains, name_parts, name_from, before_parts, pairs_append}
 use Rattle.toid_filter.proofs.Reached.{reached_more, reached_covers}
-use Rattle.toid_filter.proofs.FilterLemmas.{passed_parts, passed_from, held_parts, held_from, own_is, with_has, known_more, tidy_with, passed_known, unpassed_then, taken_steady, steady_sound, count_none, count_once}
+use Rattle.toid_filter.proofs.FilterLemmas.{passed_parts, passed_from, held_parts, held_from, own_is, with_has, known_more, tidy_with, passed_known, unpassed_then, taken_steady, steady_sound, new_steady, count_none, count_once}
 use Rattle.toid_filter.proofs.Running.{above_reached}
 
 -- What passes where all that is due passes.
@@ -262,17 +263,160 @@ sound_set map a fs i x sound number one_map accepted low h = record {
   one_map = all_at (λ (y : FilterState). y.map ≡ map) (set fs i x) (at_set (λ _ (y : FilterState). y.map ≡ map) fs i x one_map (λ j within. h.one_map j no_filter within));
   numbers = at_set (λ j (y : FilterState). y.number ≡ j) fs i x number h.numbers;
   heard = at_set (λ j (y : FilterState). y.accepted ≡ mark_accepted a j) fs i x (accepted ∙ h.heard i low) h.heard;
+  host = h.host;
+  asked = λ b is. omega (arith, h.asked b is, length-set fs i x);
   later = h.later;
   room = h.room;
   there = λ g t. omega (arith, h.there g t, length-set fs i x);
   enough = λ g. omega (arith, h.enough g, length-set fs i x);
 }
 
+-- one take by a champion
+module _ (map : List (List Share)) (a : Option Announcement) (fs : List FilterState) (r : Record) (v : Verdict) (next : FilterState) (sound : AreSound map a fs) where
+  abbrev taker : FilterState
+  taker = filter_at fs (champion map r.host r.toid)
+
+  take_sound : Fits taker r → IsTaken taker r v next → AreSound map a (set fs (champion map r.host r.toid) next)
+  take_sound fits took =
+      let low : champion map r.host r.toid < length fs = sound.there r.host r.toid in
+      let same = taken_same taker next r v took in
+      sound_set map a fs (champion map r.host r.toid) next (steady_sound next (taken_steady taker r v next (sound.each (champion map r.host r.toid) no_filter low).steady fits took))
+      (same.0 ∙ sound.numbers (champion map r.host r.toid) low) (same.1 ∙ sound.one_map (champion map r.host r.toid) no_filter low) same.2 low sound
+
+  take_passes : Fits taker r → IsTaken taker r v next → ((gained : List Record) × HasPassed taker next gained) × (is_known next r.host r.toid ≡ true)
+  take_passes fits took = taken_passes taker r v next (sound.each (champion map r.host r.toid) no_filter (sound.there r.host r.toid)).steady fits took
+
 pub champions_sound : (map : List (List Share)) (a : Option Announcement) (fs gs : List FilterState) (rs : List Record) → AreSound map a fs → AreTakenByChampions map fs rs gs → AreSound map a gs
 champions_sound map a fs gs [] sound took = subst (AreSound map a) (sym took) sound
-champions_sound map a fs gs (r ∷ rs) sound (v, next, fits, took, rest) =
+champions_sound map a fs gs (r ∷ rs) sound (v, next, fits, took, rest) = champions_sound map a (set fs (champion map r.host r.toid) next) gs rs (take_sound map a fs r v next sound fits took) rest
+
+-- what each filter passed
+record Gained (fs gs : List FilterState) (gained : List (List Record)) : Type 0 where
+  filters : length gs ≡ length fs
+  lists : length gained ≡ length fs
+  each : (i : ℕ) → i < length fs → HasPassed (filter_at fs i) (filter_at gs i) (get_or gained i [])
+
+none_gained : (fs : List FilterState) → Gained fs fs (replicate (length fs) [])
+none_gained fs = record {
+  filters = refl;
+  lists = length-replicate (length fs) [];
+  each = λ i low. subst (HasPassed (filter_at fs i) (filter_at fs i)) (sym (none_at (length fs) i)) (none_passed (filter_at fs i));
+}
+  where
+    none_at : (n i : ℕ) → ◌≡◌ {A = List Record} (get_or (replicate n []) i []) []
+    none_at zero i = refl
+    none_at (suc n) zero = refl
+    none_at (suc n) (suc i) = none_at n i
+
+-- one filter passed some, then all passed some
+module _ (fs gs : List FilterState) (i : ℕ) (next : FilterState) (first : List Record) (later : List (List Record)) (low : i < length fs) (one : HasPassed (filter_at fs i) next first) (rest : Gained (set fs i next) gs later) where
+  abbrev both : List Record
+  both = first ++ get_or later i []
+
+  then_it : HasPassed next (filter_at gs i) (get_or later i [])
+  then_it = subst (λ y. HasPassed y (filter_at gs i) (get_or later i [])) (get_or-set_same fs i next no_filter low) (rest.each i (omega (arith, length-set fs i next)))
+
+  inside : i < length later
+  inside = omega (arith, rest.lists, length-set fs i next)
+
+  at_it : HasPassed (filter_at fs i) (filter_at gs i) (get_or (set later i both) i [])
+  at_it = subst (HasPassed (filter_at fs i) (filter_at gs i)) (sym (get_or-set_same later i both [] inside)) (then_passed (filter_at fs i) next (filter_at gs i) first (get_or later i []) one then_it)
+
+  more_gained : Gained fs gs (set later i both)
+  more_gained = record {
+    filters = omega (arith, rest.filters, length-set fs i next);
+    lists = omega (arith, rest.lists, length-set fs i next, length-set later i both);
+    each = λ j within. elim (cases_eq j i) [
+      | inl same ↦ subst (λ k. HasPassed (filter_at fs k) (filter_at gs k) (get_or (set later i both) k [])) (sym same) at_it
+      | inr other ↦ subst (λ y. HasPassed y (filter_at gs j) (get_or (set later i both) j [])) (get_or-set_other fs i j next no_filter other)
+          (subst (HasPassed (filter_at (set fs i next) j) (filter_at gs j)) (sym (get_or-set_other later i j both [] other)) (rest.each j (omega (arith, length-set fs i next))))
+    ];
+  }
+
+champions_gain : (map : List (List Share)) (a : Option Announcement) (fs gs : List FilterState) (rs : List Record) → AreSound map a fs → AreTakenByChampions map fs rs gs → (gained : List (List Record)) × Gained fs gs gained
+champions_gain map a fs gs [] sound took = subst (λ xs. (gained : List (List Record)) × Gained fs xs gained) (sym took) (replicate (length fs) [], none_gained fs)
+champions_gain map a fs gs (r ∷ rs) sound (v, next, fits, took, rest) =
+    let i : ℕ = champion map r.host r.toid in
+    let first = (take_passes map a fs r v next sound fits took).0 in
+    let later = champions_gain map a (set fs i next) gs rs (take_sound map a fs r v next sound fits took) rest in
+    (set later.0 i (first.0 ++ get_or later.0 i []), more_gained fs gs i next first.0 later.0 (sound.there r.host r.toid) first.1 later.1)
+
+-- what all filters gained counts together
+sums_agree : (c : List Record → ℕ) (n : FilterState → ℕ) (fs gs : List FilterState) (gained : List (List Record)) → length gs ≡ length fs → length gained ≡ length fs
+    → ((i : ℕ) → i < length fs → c (get_or gained i []) + n (filter_at fs i) ≡ n (filter_at gs i)) → sum_by c gained + sum_by n fs ≡ sum_by n gs
+sums_agree c n [] [] [] filters lists each = refl
+sums_agree c n [] [] (x ∷ xs) filters lists each = absurd (omega (arith, lists))
+sums_agree c n [] (g ∷ gs) gained filters lists each = absurd (omega (arith, filters))
+sums_agree c n (f ∷ fs) [] gained filters lists each = absurd (omega (arith, filters))
+sums_agree c n (f ∷ fs) (g ∷ gs) [] filters lists each = absurd (omega (arith, lists))
+sums_agree c n (f ∷ fs) (g ∷ gs) (x ∷ xs) filters lists each =
+    omega (arith, sum_by-cons c x xs, sum_by-cons n f fs, sum_by-cons n g gs, each 0 (omega arith), sums_agree c n fs gs xs (omega (arith, filters)) (omega (arith, lists)) (λ i low. each (suc i) (omega arith)))
+
+pub champions_pass : (map : List (List Share)) (a : Option Announcement) (fs gs : List FilterState) (rs : List Record) → AreSound map a fs → AreTakenByChampions map fs rs gs → (gained : List (List Record)) × HavePassed fs gs gained
+champions_pass map a fs gs rs sound took =
+    let found = champions_gain map a fs gs rs sound took in
+    let after : AreSound map a gs = champions_sound map a fs gs rs sound took in (
+      found.0,
+      record {
+        filters = found.1.filters;
+        lists = found.1.lists;
+        each = found.1.each;
+        once = λ h t. omega (arith, passed_once map a gs after h t, sums_agree (count_by (has_name h t)) (times_passed h t) fs gs found.0 found.1.filters found.1.lists (λ i low. (found.1.each i low).counts h t));
+      },
+    )
+
+pub champions_know : (map : List (List Share)) (a : Option Announcement) (fs gs : List FilterState) (rs : List Record) → AreSound map a fs → AreTakenByChampions map fs rs gs → All (IsKnownToChampion map gs) rs
+champions_know map a fs gs [] sound took = All-nil (IsKnownToChampion map gs)
+champions_know map a fs gs (r ∷ rs) sound (v, next, fits, took, rest) =
     let i : ℕ = champion map r.host r.toid in
     let low : i < length fs = sound.there r.host r.toid in
-    let same = taken_same (filter_at fs i) next r v took in
-    champions_sound map a (set fs i next) gs rs
-    (sound_set map a fs i next (steady_sound next (taken_steady (filter_at fs i) r v next (sound.each i no_filter low).steady fits took)) (same.0 ∙ sound.numbers i low) (same.1 ∙ sound.one_map i no_filter low) same.2 low sound) rest
+    let after = take_sound map a fs r v next sound fits took in
+    let later = champions_gain map a (set fs i next) gs rs after rest in
+    let known : is_known (filter_at (set fs i next) i) r.host r.toid ≡ true = ap (λ x. is_known x r.host r.toid) (get_or-set_same fs i next no_filter low) ∙ (take_passes map a fs r v next sound fits took).1 in
+    All-cons (IsKnownToChampion map gs) r rs ((later.1.each i (omega (arith, length-set fs i next))).keeps r.host r.toid known) (champions_know map a (set fs i next) gs rs after rest)
+
+-- the filters that a datacentre begins with
+first_shares : (n h : ℕ) (xs : List Share) → (get_or (replicate n xs) h [] ≡ xs) ⊎ (get_or (replicate n xs) h [] ≡ [])
+first_shares zero h xs = inr refl
+first_shares (suc n) zero xs = inl refl
+first_shares (suc n) (suc h) xs = first_shares n h xs
+
+module _ (dcs filters : ℕ) (some : 1 ≤ filters) where
+  abbrev first_share : Share
+  first_share = record { start = 1; filters = filters }
+
+  dealt_low : (share : Share) (h t : ℕ) → 1 ≤ share.filters → share.filters ≤ filters → dealt_by share h t < filters
+  dealt_low share h t least most = omega (arith, mod_below ((h + t) - share.start) share.filters least)
+
+  either_low : (b : Bool) (h t : ℕ) → dealt_by (cond b first_share sole_share) h t < filters
+  either_low true h t = dealt_low first_share h t some (omega arith)
+  either_low false h t = dealt_low sole_share h t (omega arith) some
+
+  first_there : (h t : ℕ) → champion (first_map dcs filters) h t < filters
+  first_there h t = elim (first_shares dcs h (first_share ∷ [])) [
+    | inl is ↦ subst (λ xs. dealt_from sole_share xs h t < filters) (sym is) (either_low (leb 1 t) h t)
+    | inr is ↦ subst (λ xs. dealt_from sole_share xs h t < filters) (sym is) (either_low false h t)
+  ]
+
+  first_enough : (h : ℕ) → (last_share (first_map dcs filters) h).filters ≤ filters
+  first_enough h = elim (first_shares dcs h (first_share ∷ [])) [
+    | inl is ↦ subst (λ xs. (last_of_shares sole_share xs).filters ≤ filters) (sym is) (omega arith)
+    | inr is ↦ subst (λ xs. (last_of_shares sole_share xs).filters ≤ filters) (sym is) some
+  ]
+
+pub new_sound : (dcs filters : ℕ) (fs : List FilterState) → 1 ≤ dcs → dcs ≤ 8 → 1 ≤ filters → length fs ≡ filters → ((i : ℕ) → i < filters → filter_at fs i ≡ new_filter i (first_map dcs filters)) → AreSound (first_map dcs filters) None fs
+new_sound dcs filters fs one few some all new = record {
+  each = all_at IsSound fs (λ i low. subst IsSound (sym (new i (omega arith))) (steady_sound (new_filter i (first_map dcs filters)) (new_steady i (first_map dcs filters))));
+  one_map = all_at (λ (f : FilterState). f.map ≡ first_map dcs filters) fs (λ i low. ap (λ (f : FilterState). f.map) (new i (omega arith)));
+  numbers = λ i low. ap (λ (f : FilterState). f.number) (new i (omega arith));
+  heard = λ i low. ap (λ (f : FilterState). f.accepted) (new i (omega arith));
+  host = λ a is. absurd (none_some a is);
+  asked = λ a is. absurd (none_some a is);
+  later = λ a is. absurd (none_some a is);
+  room = λ a is. absurd (none_some a is);
+  there = λ h t. omega (arith, first_there dcs filters some h t);
+  enough = λ h. omega (arith, first_enough dcs filters some h);
+}
+  where
+    none_some : (a : Announcement) → ◌≡◌ {A = Option Announcement} None (Some a) → ⊥
+    none_some a is = absurd (cc)

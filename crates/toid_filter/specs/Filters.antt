@@ -177,12 +177,15 @@ mark_accepted None i = None
 mark_accepted (Some a) i = if nat_lt i a.next then Some (record { host = a.host; from = a.mark }) else None
 
 -- The filters of a datacentre are sound, by one map; the accepted marks are those of the filters that the announcement has
--- heard, and there is none without one; what is announced is later than the last share and leaves at most 16 filters; every champion is there.
+-- heard, and there is none without one; what is announced is of a host that there is, is later than the last share, leaves at
+-- most 16 filters and asks none that is not there; every champion is there.
 pub record AreSound (map : List (List Share)) (announcement : Option Announcement) (fs : List FilterState) : Type 0 where
   pub each : All IsSound fs
   pub one_map : All (λ f. f.map ≡ map) fs
   pub numbers : (i : ℕ) → i < length fs → (filter_at fs i).number ≡ i
   pub heard : (i : ℕ) → i < length fs → (filter_at fs i).accepted ≡ mark_accepted announcement i
+  pub host : (a : Announcement) → announcement ≡ Some a → a.host < length map
+  pub asked : (a : Announcement) → announcement ≡ Some a → a.next ≤ length fs
   pub later : (a : Announcement) → announcement ≡ Some a → (last_share map a.host).start < a.mark
   pub room : (a : Announcement) → announcement ≡ Some a → (last_share map a.host).filters < 16
   pub there : (h t : ℕ) → champion map h t < length fs

@@ -1,5 +1,5 @@
 -- Lists of takes, by one filter and by all filters of a datacentre.
-use Rattle.std.specs.Prelude.{◌≡◌, ◌⊎◌, ℕ, ◌+◌, ◌<◌, ◌≤◌, true, false, List, [], ◌∷◌, ◌++◌, map, slice_index, slice_set, count_by, All}
+use Rattle.std.specs.Prelude.{◌≡◌, ◌⊎◌, ℕ, ◌+◌, ◌<◌, ◌≤◌, true, false, List, [], ◌∷◌, ◌++◌, length, map, slice_index, slice_index_or, slice_set, count_by, sum_by, All}
 use Rattle.std.specs.List.{AllPairs}
 use Rattle.causal_deps.specs.declared.record.Record.{Record}
 use Rattle.causal_deps.specs.declared.record.Item.TheVariants.{External}
@@ -36,6 +36,18 @@ pub record HasPassed (f g : FilterState) (gained : List Record) : Type 0 where
   pub reached : All (λ q. q.toid ≤ slice_index g.reached q.host) gained
   pub grows : (h : ℕ) → slice_index f.reached h ≤ slice_index g.reached h
   pub keeps : (h t : ℕ) → is_known f h t ≡ true → is_known g h t ≡ true
+
+-- Between two states the filters of a datacentre passed these lists, one for each filter; a number stands in all of them together
+-- at most once, and in none of them where a filter passed it before.
+pub record HavePassed (fs gs : List FilterState) (gained : List (List Record)) : Type 0 where
+  pub filters : length gs ≡ length fs
+  pub lists : length gained ≡ length fs
+  pub each : (i : ℕ) → i < length fs → HasPassed (filter_at fs i) (filter_at gs i) (slice_index_or gained i [])
+  pub once : (h t : ℕ) → sum_by (count_by (has_name h t)) gained + sum_by (times_passed h t) fs ≤ 1
+
+-- the champion of the record's number passed it or holds it
+abbrev pub IsKnownToChampion : List (List Share) → List FilterState → Record → Type 0
+IsKnownToChampion map fs r = is_known (filter_at fs (champion map r.host r.toid)) r.host r.toid ≡ true
 
 -- the record waits for a smaller own number of its host that was not passed, or for a mark
 abbrev pub Waits : FilterState → Record → Type 0
