@@ -320,8 +320,6 @@ steady_sound f steady = record {
       let parts = free_parts f q is in
       true≢false (sym (due_from f q (λ u low. done_met f q.host u (parts.0 u low)) parts.1) ∙ All-contains (λ (r : Record). is_due f r ≡ false) f.held q steady.none_due has)));
   below_mark = λ h t is. let parts = passed_parts f h t is in held_back_below f.accepted h (get_or f.reached h 0) t (steady.tidy.reached_open h (omega (arith, parts.0, parts.1))) parts.1;
-  greatest = λ h some. passed_from f h (get_or f.reached h 0) some (omega arith) (steady.tidy.reached_own h some);
-  steady = steady;
 }
 
 -- What was passed on does not matter.

@@ -14,7 +14,7 @@ use Rattle.toid_filter.specs.declared.champions.Share.{Share}
 use Rattle.toid_filter.specs.declared.filter.Verdict.{Verdict}
 use Rattle.toid_filter.specs.declared.filter.Verdict.TheVariants.{Passed, Held, Dropped}
 use Rattle.toid_filter.specs.Champions.{champion, dealt_by, dealt_from, first_map, last_share, last_of_shares, sole_share}
-use Rattle.toid_filter.specs.Filters.{FilterState, Announcement, no_filter, new_filter, filter_at, owns, is_passed, has_name, is_held, is_known, times_passed, all_below, is_done, is_free, is_held_back, is_due, due, reached_by, released, stands_before, with_held, with_record, mark_accepted, IsTaken, Fits, IsTidy, IsSteady, IsSound, AreSound}
+use Rattle.toid_filter.specs.Filters.{FilterState, Announcement, no_filter, new_filter, filter_at, owns, is_passed, has_name, is_held, is_known, times_passed, all_below, is_done, is_free, is_held_back, is_due, due, reached_by, released, stands_before, with_held, with_record, mark_accepted, IsTaken, Fits, IsTidy, IsSteady, AreSound}
 use Rattle.toid_filter.specs.Laws.{AreTaken, AreTakenByChampions, HasPassed, HavePassed, IsKnownToChampion, Waits}
 use Rattle.toid_filter.proofs.Tests.{filter_keeps, all_from_contains, name_parts, name_from, before_parts, pairs_append}
 use Rattle.toid_filter.proofs.Reached.{reached_more, reached_covers}
@@ -234,9 +234,9 @@ sum_once n c base (f ∷ fs) most none = elim (cases_eq base c) [
 
 pub passed_once : (map : List (List Share)) (a : Option Announcement) (fs : List FilterState) → AreSound map a fs → (h t : ℕ) → sum_by (times_passed h t) fs ≤ 1
 passed_once map a fs sound h t = sum_once (times_passed h t) (champion map h t) 0 fs
-    (λ i low. omega (arith, (sound.each i no_filter low).once h t))
+    (λ i low. omega (arith, (steady_sound (filter_at fs i) (sound.each i no_filter low)).once h t))
     (λ i low apart. cond-false (is_passed (filter_at fs i) h t) 1 0 (false_from_ne_true (is_passed (filter_at fs i) h t) (λ is.
-    let own = eqb-true (champion (filter_at fs i).map h t) (filter_at fs i).number ((sound.each i no_filter low).own_passed h t is) in
+    let own = eqb-true (champion (filter_at fs i).map h t) (filter_at fs i).number ((steady_sound (filter_at fs i) (sound.each i no_filter low)).own_passed h t is) in
     apart (omega (arith, own, sound.numbers i low, ap (λ m. champion m h t) (sound.one_map i no_filter low))))))
 
 taken_same : (f g : FilterState) (r : Record) (v : Verdict) → IsTaken f r v g → (g.number ≡ f.number) × (g.map ≡ f.map) × (g.accepted ≡ f.accepted)
@@ -255,11 +255,11 @@ at_set P fs i x here all j within =
 all_at : (P : FilterState → Type 0) (fs : List FilterState) → ((j : ℕ) → j < length fs → P (filter_at fs j)) → All P fs
 all_at P fs each = λ k d within. subst P (get_or_default fs k no_filter d within) (each k within)
 
--- a sound filter in the place of another by the same map, with the same accepted mark
-pub sound_set : (map : List (List Share)) (a : Option Announcement) (fs : List FilterState) (i : ℕ) (x : FilterState) → IsSound x → x.number ≡ i → x.map ≡ map → x.accepted ≡ (filter_at fs i).accepted → i < length fs
+-- a steady filter in the place of another by the same map, with the same accepted mark
+pub sound_set : (map : List (List Share)) (a : Option Announcement) (fs : List FilterState) (i : ℕ) (x : FilterState) → IsSteady x → x.number ≡ i → x.map ≡ map → x.accepted ≡ (filter_at fs i).accepted → i < length fs
     → AreSound map a fs → AreSound map a (set fs i x)
-sound_set map a fs i x sound number one_map accepted low h = record {
-  each = all_at IsSound (set fs i x) (at_set (λ _ y. IsSound y) fs i x sound (λ j within. h.each j no_filter within));
+sound_set map a fs i x steady number one_map accepted low h = record {
+  each = all_at IsSteady (set fs i x) (at_set (λ _ y. IsSteady y) fs i x steady (λ j within. h.each j no_filter within));
   one_map = all_at (λ (y : FilterState). y.map ≡ map) (set fs i x) (at_set (λ _ (y : FilterState). y.map ≡ map) fs i x one_map (λ j within. h.one_map j no_filter within));
   numbers = at_set (λ j (y : FilterState). y.number ≡ j) fs i x number h.numbers;
   heard = at_set (λ j (y : FilterState). y.accepted ≡ mark_accepted a j) fs i x (accepted ∙ h.heard i low) h.heard;
@@ -280,11 +280,11 @@ module _ (map : List (List Share)) (a : Option Announcement) (fs : List FilterSt
   take_sound fits took =
       let low : champion map r.host r.toid < length fs = sound.there r.host r.toid in
       let same = taken_same taker next r v took in
-      sound_set map a fs (champion map r.host r.toid) next (steady_sound next (taken_steady taker r v next (sound.each (champion map r.host r.toid) no_filter low).steady fits took))
+      sound_set map a fs (champion map r.host r.toid) next (taken_steady taker r v next (sound.each (champion map r.host r.toid) no_filter low) fits took)
       (same.0 ∙ sound.numbers (champion map r.host r.toid) low) (same.1 ∙ sound.one_map (champion map r.host r.toid) no_filter low) same.2 low sound
 
   take_passes : Fits taker r → IsTaken taker r v next → ((gained : List Record) × HasPassed taker next gained) × (is_known next r.host r.toid ≡ true)
-  take_passes fits took = taken_passes taker r v next (sound.each (champion map r.host r.toid) no_filter (sound.there r.host r.toid)).steady fits took
+  take_passes fits took = taken_passes taker r v next (sound.each (champion map r.host r.toid) no_filter (sound.there r.host r.toid)) fits took
 
 pub champions_sound : (map : List (List Share)) (a : Option Announcement) (fs gs : List FilterState) (rs : List Record) → AreSound map a fs → AreTakenByChampions map fs rs gs → AreSound map a gs
 champions_sound map a fs gs [] sound took = subst (AreSound map a) (sym took) sound
@@ -406,7 +406,7 @@ module _ (dcs filters : ℕ) (some : 1 ≤ filters) where
 
 pub new_sound : (dcs filters : ℕ) (fs : List FilterState) → 1 ≤ dcs → dcs ≤ 8 → 1 ≤ filters → length fs ≡ filters → ((i : ℕ) → i < filters → filter_at fs i ≡ new_filter i (first_map dcs filters)) → AreSound (first_map dcs filters) None fs
 new_sound dcs filters fs one few some all new = record {
-  each = all_at IsSound fs (λ i low. subst IsSound (sym (new i (omega arith))) (steady_sound (new_filter i (first_map dcs filters)) (new_steady i (first_map dcs filters))));
+  each = all_at IsSteady fs (λ i low. subst IsSteady (sym (new i (omega arith))) (new_steady i (first_map dcs filters)));
   one_map = all_at (λ (f : FilterState). f.map ≡ first_map dcs filters) fs (λ i low. ap (λ (f : FilterState). f.map) (new i (omega arith)));
   numbers = λ i low. ap (λ (f : FilterState). f.number) (new i (omega arith));
   heard = λ i low. ap (λ (f : FilterState). f.accepted) (new i (omega arith));

@@ -141,14 +141,14 @@ pub record IsTidy (f : FilterState) : Type 0 where
   pub fits : All (Fits f) f.held
   pub unpassed : All (λ r. is_passed f r.host r.toid ≡ false) f.held
 
--- what a filter keeps between its calls
+-- what a filter keeps between its calls; by it the filter is sound
 pub record IsSteady (f : FilterState) : Type 0 where
   pub tidy : IsTidy f
   pub none_due : All (λ r. is_due f r ≡ false) f.held
 
 -- A sound filter: what it passed or holds is its own; it holds no number that it passed, and none twice; each own number
 -- smaller than a passed one of that host was passed; what is held waits for a smaller own number or for an accepted mark;
--- nothing at or above an accepted mark of its host was passed; the greatest number that it has of a host was passed.
+-- nothing at or above an accepted mark of its host was passed.
 pub record IsSound (f : FilterState) : Type 0 where
   pub own_passed : (h t : ℕ) → is_passed f h t ≡ true → owns f h t ≡ true
   pub own_held : All (λ r. owns f r.host r.toid ≡ true) f.held
@@ -156,8 +156,6 @@ pub record IsSound (f : FilterState) : Type 0 where
   pub in_order : (h t : ℕ) → is_passed f h t ≡ true → all_below (is_done f h) t ≡ true
   pub none_free : All (λ r. is_free f r ≡ false) f.held
   pub below_mark : (h t : ℕ) → is_passed f h t ≡ true → is_held_back f.accepted h t ≡ false
-  pub greatest : (h : ℕ) → 1 ≤ slice_index f.reached h → is_passed f h (slice_index f.reached h) ≡ true
-  pub steady : IsSteady f
 
 abbrev pub no_filter : FilterState
 no_filter = record { number = 0; map = []; reached = []; held = []; out = []; accepted = None }
@@ -176,11 +174,11 @@ abbrev pub mark_accepted : Option Announcement → ℕ → Option Mark
 mark_accepted None i = None
 mark_accepted (Some a) i = if nat_lt i a.next then Some (record { host = a.host; from = a.mark }) else None
 
--- The filters of a datacentre are sound, by one map; the accepted marks are those of the filters that the announcement has
+-- The filters of a datacentre are steady, and so sound, by one map; the accepted marks are those of the filters that the announcement has
 -- heard, and there is none without one; what is announced is of a host that there is, is later than the last share, leaves at
 -- most 16 filters and asks none that is not there; every champion is there.
 pub record AreSound (map : List (List Share)) (announcement : Option Announcement) (fs : List FilterState) : Type 0 where
-  pub each : All IsSound fs
+  pub each : All IsSteady fs
   pub one_map : All (λ f. f.map ≡ map) fs
   pub numbers : (i : ℕ) → i < length fs → (filter_at fs i).number ≡ i
   pub heard : (i : ℕ) → i < length fs → (filter_at fs i).accepted ≡ mark_accepted announcement i

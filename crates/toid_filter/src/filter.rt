@@ -3,7 +3,7 @@ ghost use Rattle.std.specs.Option.{option_map_or};
 ghost use Rattle.std.specs.List.{remove_range, slice_range};
 ghost use Rattle.std.specs.List.Sorted.{IsPartitionPoint};
 ghost use Rattle.causal_deps.specs.declared.record.Item.TheVariants.{Local, External};
-ghost use Rattle.toid_filter.specs.Filters.{has_name, is_due, is_free, is_held_back, is_known, is_passed, new_filter, owns, reached_by, stands_before, with_held, Fits, Follows, IsSound, IsTaken};
+ghost use Rattle.toid_filter.specs.Filters.{has_name, is_due, is_free, is_held_back, is_known, is_passed, new_filter, owns, reached_by, stands_before, with_held, Fits, Follows, IsSound, IsSteady, IsTaken};
 
 use crate::Champions;
 use causal_deps::{Counts, Draft, Item, Record};
@@ -79,7 +79,9 @@ impl Filter {
 
     /// Whether the filter may take the record: it is a number of its own, of a host that there is.
     pub fn fits(&self, rec: &Record) -> bool
-        ensures { IsTrue result ↔ Fits self.now rec.now }
+        ensures tells { IsTrue result ↔ Fits self.now rec.now }
+        ensures steady { IsSteady self.now }
+        ensures sound { IsSound self.now }
     {
         rec.host.number() < self.map.dcs() && rec.toid >= 1 && self.owns(rec.host, rec.toid)
     }

@@ -4,7 +4,7 @@ ghost use Rattle.causal_deps.specs.declared.record.Record.{Record};
 ghost use Rattle.toid_filter.specs.declared.champions.Share.{Share};
 ghost use Rattle.toid_filter.specs.declared.filter.Verdict.{Verdict};
 ghost use Rattle.toid_filter.specs.Champions.{first_map};
-ghost use Rattle.toid_filter.specs.Filters.{FilterState, Announcement, filter_at, is_known, new_filter, times_passed, with_record, AreSound, Fits, IsSound, IsTaken};
+ghost use Rattle.toid_filter.specs.Filters.{FilterState, Announcement, filter_at, is_known, new_filter, times_passed, with_record, AreSound, IsSound, IsSteady, IsTaken};
 ghost use Rattle.toid_filter.specs.Laws.{AreTaken, AreTakenByChampions, HasPassed, HavePassed, IsKnownToChampion, Waits};
 
 /// What a take leaves is determined: it is the one filter that the record leads to.
@@ -12,19 +12,24 @@ pub fn takes_are_determined()
     ensures { (f g : FilterState) (r : Record) (v : Verdict) → IsTaken f r v g → g ≡ with_record f r }
 {}
 
-/// A sound filter stays sound over any list of takes.
+/// What a filter keeps between its calls makes it sound.
+pub fn steady_filters_are_sound()
+    ensures { (f : FilterState) → IsSteady f → IsSound f }
+{}
+
+/// A filter stays sound over any list of takes.
 pub fn takes_keep_filters_sound()
-    ensures { (f g : FilterState) (rs : List Record) (vs : List Verdict) → IsSound f → AreTaken f rs vs g → IsSound g }
+    ensures { (f g : FilterState) (rs : List Record) (vs : List Verdict) → IsSteady f → AreTaken f rs vs g → IsSteady g × IsSound g }
 {}
 
 /// Over any list of takes a filter passes each number at most once, and those of one host in rising order.
 pub fn numbers_pass_once_and_in_order()
-    ensures { (f g : FilterState) (rs : List Record) (vs : List Verdict) → IsSound f → AreTaken f rs vs g → (gained : List Record) × HasPassed f g gained }
+    ensures { (f g : FilterState) (rs : List Record) (vs : List Verdict) → IsSteady f → AreTaken f rs vs g → (gained : List Record) × HasPassed f g gained }
 {}
 
 /// Nothing is lost: after any list of takes each record taken was passed or is held.
 pub fn nothing_is_lost()
-    ensures { (f g : FilterState) (rs : List Record) (vs : List Verdict) → IsSound f → AreTaken f rs vs g → All (λ r. is_known g r.host r.toid ≡ true) rs }
+    ensures { (f g : FilterState) (rs : List Record) (vs : List Verdict) → IsSteady f → AreTaken f rs vs g → All (λ r. is_known g r.host r.toid ≡ true) rs }
 {}
 
 /// What a filter holds waits: as soon as the smaller own numbers were passed and no mark is in the way, it is passed.

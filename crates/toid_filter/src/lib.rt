@@ -21,5 +21,6 @@ pub use filter::{Filter, Mark, Verdict};
 pub use laws::{
     champions_keep_filters_sound, champions_lose_nothing, champions_pass_each_number_once,
     held_records_wait, new_filters_are_sound, nothing_is_lost, numbers_pass_once_and_in_order,
-    one_filter_passes_a_number, takes_are_determined, takes_keep_filters_sound,
+    one_filter_passes_a_number, steady_filters_are_sound, takes_are_determined,
+    takes_keep_filters_sound,
 };
