@@ -29,7 +29,7 @@ use Rattle.script_text.specs.declared.progress.Stages.{Stages as StagesOf}
 use Rattle.script_text.specs.Words.{is_digit, is_number, number_of, is_datacentre, is_name, is_body, words, is_line_byte, is_empty_word}
 use Rattle.script_text.specs.Reading.{number_in, number_at, datacentre_at, body_in, body_at, names_in}
 use Rattle.script_text.specs.Keywords.{text_of, keywords, keyword_of, stands, is_built, least_words, most_words, is_start, is_datacentres, is_round, is_stages, is_sessions, is_steps, is_ended}
-use Rattle.script_text.specs.Meaning.{start, chariots_line, datacentres_line, round_line, sizes_at, stages_line, session_line, onto_last, with_command, append_line, read_line, command_meaning, meaning, keyword_after, words_after, is_passed_over, line_after, is_given, script_said, told, script_from, script_of}
+use Rattle.script_text.specs.Meaning.{start, chariots_line, datacentres_line, round_line, sizes_at, stages_line, session_line, onto_last, with_command, append_line, read_line, command_meaning, meaning, keyword_after, words_after, is_passed_over, line_after, is_given, script_said, told, next_number, script_from, script_of}
 use Rattle.script_text.specs.Spelled.{letter, command_words, plan_lines, stages_words, first_words, datacentres_words, round_words, before_steps, steps_words, end_words, said_words, Spells}
 use Rattle.script_text.proofs.Sound.{IsSound, start-sound, line-sound, okay, okay-same, bind_ok, guard_ok, pass_ok, and_both, not_false, or_false, told_ok}
 
@@ -38,7 +38,8 @@ use Rattle.script_text.proofs.Sound.{IsSound, start-sound, line-sound, okay, oka
 digits_test : IsDigitsTest (λ ds. list_all is_digit ds ≡ true)
 digits_test = search rules
 
-own : IsNumeralModel (λ ds. list_all is_digit ds ≡ true) number_of
+-- the digits of a number word are a numeral
+pub own : IsNumeralModel (λ ds. list_all is_digit ds ≡ true) number_of
 own = numerals_by_value (λ ds. list_all is_digit ds ≡ true) digits_test
 
 le_one : (n : ℕ) → nat_le n 1 ≡ true → n ≤ 1
@@ -587,10 +588,10 @@ script_from-ends said number [] script laid sound same =
       more = ap (λ (s : Section). so_far_at s said) (sym (at-ended said.section ended.0)) ∙ sym (append-nil (so_far_at said.section said));
     }
 script_from-ends said number (line ∷ more) script laid sound same =
-    let step = bind_ok (told number (line_after said line)) (λ after. script_from after (number + 1) more) script same in
+    let step = bind_ok (told number (line_after said line)) (λ after. script_from after (next_number number) more) script same in
     let on = told_ok number (line_after said line) step.0 step.1.0 in
     let adds = line-adds said step.0 line laid on in
-    let ends = script_from-ends step.0 (number + 1) more script adds.0 (line-sound said step.0 line sound on) step.1.1 in
+    let ends = script_from-ends step.0 (next_number number) more script adds.0 (line-sound said step.0 line sound on) step.1.1 in
     let here : List (List (List ℕ)) = so_far_at said.section said in
     let grown = ap (λ (ls : List (List (List ℕ))). ls ++ said_words more) adds.1 in
     record {

@@ -25,8 +25,9 @@ use Rattle.script_text.specs.declared.progress.Stages.{Stages as StagesOf}
 use Rattle.script_text.specs.Words.{is_number, number_of, is_datacentre, is_name, is_body, words, is_line_byte, is_empty_word}
 use Rattle.script_text.specs.Reading.{◌>>=◌, number_in, number_at, datacentre_at, body_in, body_at, names_in}
 use Rattle.script_text.specs.Keywords.{keyword_of, stands, is_built, least_words, most_words, is_start, is_datacentres, is_round, is_stages, is_sessions, is_steps, is_ended}
-use Rattle.script_text.specs.Meaning.{start, chariots_line, datacentres_line, round_line, sizes_at, stages_line, session_line, onto_last, with_command, append_line, read_line, command_meaning, meaning, keyword_after, words_after, is_passed_over, line_after, is_given, sizes_found, sizes_given, sizes_upto, script_said, told, script_from, script_of}
+use Rattle.script_text.specs.Meaning.{start, chariots_line, datacentres_line, round_line, sizes_at, stages_line, session_line, onto_last, with_command, append_line, read_line, command_meaning, meaning, keyword_after, words_after, is_passed_over, line_after, is_given, sizes_found, sizes_given, sizes_upto, script_said, told, next_number, script_from, script_of}
 use Rattle.script_text.specs.Fits.{IsSize, FitsSizes, FitsCommand, FitsPlan, commands_of, FitsScript}
+use Rattle.script_text.specs.Spelled.{IsBuiltCommand}
 
 -- where a section stands
 abbrev pub rank : Section → ℕ
@@ -280,7 +281,11 @@ sizes_take left x same =
     } in
     subst (λ (p : Sizes × List (List ℕ)). FitsSizes p.0) pair fits
 
--- What has been said keeps the ranges.
+-- What has been said keeps the ranges, and is built.
+
+-- all commands of a session are read yet
+abbrev pub IsBuiltPlan : SessionPlan → Type 0
+IsBuiltPlan plan = All IsBuiltCommand plan.commands
 
 pub record IsSound (said : Progress) : Type 0 where
   pub dcs : 2 ≤ rank said.section → (1 ≤ said.dcs) × (said.dcs ≤ 8)
@@ -292,6 +297,8 @@ pub record IsSound (said : Progress) : Type 0 where
   pub counted : said.commands ≡ commands_of said.sessions
   pub within : said.commands ≤ 16384
   pub steps : said.steps ≡ []
+  pub one : 2 ≤ rank said.section → said.dcs ≡ 1
+  pub built : All IsBuiltPlan said.sessions
 
 pub start-sound : IsSound start
 start-sound = record {
@@ -304,6 +311,8 @@ start-sound = record {
   counted = refl;
   within = omega arith;
   steps = refl;
+  one = λ h. absurd (omega arith);
+  built = All-nil IsBuiltPlan;
 }
 
 -- where no session has begun, all sessions keep anything
@@ -325,6 +334,8 @@ chariots-sound said after left here sound same =
       counted = sound.counted;
       within = sound.within;
       steps = sound.steps;
+      one = λ h. absurd (omega arith);
+      built = sound.built;
     })
 
 datacentres-sound : (said after : Progress) (left : List (List ℕ)) → rank said.section ≡ 1 → IsSound said → datacentres_line said left ≡ Ok after → IsSound after
@@ -343,6 +354,8 @@ datacentres-sound said after left here sound same =
       counted = sound.counted;
       within = sound.within;
       steps = sound.steps;
+      one = λ h. omega (arith, n.least_is, n.most_is);
+      built = sound.built;
     })
 
 round-sound : (said after : Progress) (left : List (List ℕ)) → rank said.section ≡ 2 → IsSound said → round_line said left ≡ Ok after → IsSound after
@@ -361,6 +374,8 @@ round-sound said after left here sound same =
       counted = sound.counted;
       within = sound.within;
       steps = sound.steps;
+      one = λ h. sound.one (omega arith);
+      built = sound.built;
     })
 
 stages-sound : (said after : Progress) (left : List (List ℕ)) → IsSound said → stages_line said left ≡ Ok after → IsSound after
@@ -381,6 +396,8 @@ stages-sound said after left sound same =
       counted = sound.counted;
       within = sound.within;
       steps = sound.steps;
+      one = sound.one;
+      built = sound.built;
     })
 
 commands_of-push : (plans : List SessionPlan) (home : ℕ) → commands_of (plans ++ record { home = home; commands = [] } ∷ []) ≡ commands_of plans
@@ -406,6 +423,8 @@ session-sound said after left here sound same =
       counted = sound.counted ∙ sym (commands_of-push said.sessions home.0.0);
       within = sound.within;
       steps = sound.steps;
+      one = λ h. sound.one (omega arith);
+      built = All-push IsBuiltPlan said.sessions plan sound.built (All-nil IsBuiltCommand);
     })
 
 onto_last-fits : (dcs : ℕ) (plans : List SessionPlan) (c : Command) → FitsCommand c → All (FitsPlan dcs) plans → All (FitsPlan dcs) (onto_last plans c)
@@ -418,6 +437,15 @@ onto_last-fits dcs (plan ∷ next ∷ more) c fits all =
     All-cons (FitsPlan dcs) plan (onto_last (next ∷ more) c) (All-head (FitsPlan dcs) plan (next ∷ more) all)
     (onto_last-fits dcs (next ∷ more) c fits (All-tail (FitsPlan dcs) plan (next ∷ more) all))
 
+onto_last-built : (plans : List SessionPlan) (c : Command) → IsBuiltCommand c → All IsBuiltPlan plans → All IsBuiltPlan (onto_last plans c)
+onto_last-built [] c now all = All-nil IsBuiltPlan
+onto_last-built (plan ∷ []) c now all =
+    let more : SessionPlan = record { home = plan.home; commands = plan.commands ++ c ∷ [] } in
+    All-cons IsBuiltPlan more [] (All-push IsBuiltCommand plan.commands c (All-head IsBuiltPlan plan [] all) now) (All-nil IsBuiltPlan)
+onto_last-built (plan ∷ next ∷ more) c now all =
+    All-cons IsBuiltPlan plan (onto_last (next ∷ more) c) (All-head IsBuiltPlan plan (next ∷ more) all)
+    (onto_last-built (next ∷ more) c now (All-tail IsBuiltPlan plan (next ∷ more) all))
+
 length-onto_last : (plans : List SessionPlan) (c : Command) → length (onto_last plans c) ≡ length plans
 length-onto_last [] c = refl
 length-onto_last (plan ∷ []) c = refl
@@ -428,9 +456,9 @@ commands_of-onto_last [] c some = absurd (omega arith)
 commands_of-onto_last (plan ∷ []) c some = omega (arith, length-append plan.commands (c ∷ []))
 commands_of-onto_last (plan ∷ next ∷ more) c some = omega (arith, commands_of-onto_last (next ∷ more) c (omega arith))
 
-command-sound : (said after : Progress) (c : Command) → rank said.section ≡ 4 → FitsCommand c → IsSound said → with_command said c ≡ Ok after → IsSound after
+command-sound : (said after : Progress) (c : Command) → rank said.section ≡ 4 → FitsCommand c → IsBuiltCommand c → IsSound said → with_command said c ≡ Ok after → IsSound after
 unfolding with_command
-command-sound said after c here fits sound same =
+command-sound said after c here fits now sound same =
     let room = guard_ok (nat_le 16384 said.commands) _ _ after same in
     let begun = guard_ok (nat_eq (length said.sessions) 0) _ _ after room.1 in
     let is : record said { sessions = onto_last said.sessions c; commands = said.commands + 1 } ≡ after = cc (begun.1) in
@@ -446,6 +474,8 @@ command-sound said after c here fits sound same =
       counted = omega (arith, commands_of-onto_last said.sessions c some, sound.counted);
       within = omega (arith, fewer);
       steps = sound.steps;
+      one = sound.one;
+      built = onto_last-built said.sessions c now sound.built;
     })
 
 append-sound : (said after : Progress) (left : List (List ℕ)) → rank said.section ≡ 4 → length left ≤ 9 → IsSound said → append_line said left ≡ Ok after → IsSound after
@@ -456,14 +486,14 @@ append-sound said after left here few sound same =
     let taken = body_takes left body.0 body.1.0 in
     let named = names_take body.0.1 tags.0 tags.1.0 in
     let short : length tags.0 ≤ 8 = omega (arith, taken.shorter, ap (λ (ws : List (List ℕ)). length ws) named.0, few) in
-    command-sound said after (command.Append tags.0 body.0.0) here (short, (subst (λ (ws : List (List ℕ)). All IsName ws) named.0 named.1, taken.body)) sound tags.1.1
+    command-sound said after (command.Append tags.0 body.0.0) here (short, (subst (λ (ws : List (List ℕ)). All IsName ws) named.0 named.1, taken.body)) tt sound tags.1.1
 
 read-sound : (said after : Progress) (left : List (List ℕ)) → rank said.section ≡ 4 → IsSound said → read_line said left ≡ Ok after → IsSound after
 unfolding read_line
 read-sound said after left here sound same =
     let lid = bind_ok (number_at 1 4294967295 left) _ after same in
     let n = number_takes 1 4294967295 left lid.0 lid.1.0 in
-    command-sound said after (command.Read lid.0.0) here (n.least_is, omega (arith, n.most_is)) sound lid.1.1
+    command-sound said after (command.Read lid.0.0) here (n.least_is, omega (arith, n.most_is)) tt sound lid.1.1
 
 command_line-sound : (said after : Progress) (word : CommandWord) (left : List (List ℕ)) → rank said.section ≡ 4 → length left ≤ most_words (CommandLine word) → IsSound said → command_meaning said word left ≡ Ok after → IsSound after
 command_line-sound said after Append left here few sound same = append-sound said after left here few sound same
@@ -487,6 +517,8 @@ section-sound said after next here later sound same =
       counted = sound.counted;
       within = sound.within;
       steps = sound.steps;
+      one = λ h. sound.one (omega arith);
+      built = sound.built;
     })
 
 meaning-sound : (said after : Progress) (keyword : Keyword) (left : List (List ℕ)) → stands keyword said.section ≡ true → length left ≤ most_words keyword → IsSound said → meaning said keyword left ≡ Ok after → IsSound after
@@ -569,8 +601,8 @@ script_from-fits said number [] script sound same =
     let is : script_said said ≡ script = cc (ended.1) in
     subst FitsScript is (said-fits said sound (omega (arith, rank-ended said.section ended.0)))
 script_from-fits said number (line ∷ more) script sound same =
-    let step = bind_ok (told number (line_after said line)) (λ after. script_from after (number + 1) more) script same in
-    script_from-fits step.0 (number + 1) more script (line-sound said step.0 line sound (told_ok number (line_after said line) step.0 step.1.0)) step.1.1
+    let step = bind_ok (told number (line_after said line)) (λ after. script_from after (next_number number) more) script same in
+    script_from-fits step.0 (next_number number) more script (line-sound said step.0 line sound (told_ok number (line_after said line) step.0 step.1.0)) step.1.1
 
 -- what lines spell keeps the ranges
 pub script_of-fits : (lines : List (List ℕ)) (script : Script) → script_of lines ≡ Ok script → FitsScript script
@@ -579,3 +611,20 @@ script_of-fits lines script same = script_from-fits start 1 lines script start-s
 pub all-fit : (lines : List (List ℕ)) (result : Result Script ScriptFault) → IfOk result (λ script. script_of lines ≡ Ok script) → IfOk result FitsScript
 all-fit lines (Ok script) same = script_of-fits lines script same
 all-fit lines (Err fault) same = tt
+
+-- a script that is read yet
+abbrev pub IsBuiltScript : Script → Type 0
+IsBuiltScript script = (script.workload.dcs ≡ 1) × All (λ plan. All IsBuiltCommand plan.commands) script.workload.sessions
+
+script_from-built : (said : Progress) (number : ℕ) (left : List (List ℕ)) (script : Script) → IsSound said → script_from said number left ≡ Ok script → IsBuiltScript script
+script_from-built said number [] script sound same =
+    let ended = pass_ok (is_ended said.section) _ _ script same in
+    let is : script_said said ≡ script = cc (ended.1) in
+    subst IsBuiltScript is (sound.one (omega (arith, rank-ended said.section ended.0)), sound.built)
+script_from-built said number (line ∷ more) script sound same =
+    let step = bind_ok (told number (line_after said line)) (λ after. script_from after (next_number number) more) script same in
+    script_from-built step.0 (next_number number) more script (line-sound said step.0 line sound (told_ok number (line_after said line) step.0 step.1.0)) step.1.1
+
+pub all-built : (lines : List (List ℕ)) (result : Result Script ScriptFault) → IfOk result (λ script. script_of lines ≡ Ok script) → IfOk result IsBuiltScript
+all-built lines (Ok script) same = script_from-built start 1 lines script start-sound same
+all-built lines (Err fault) same = tt
