@@ -32,8 +32,8 @@ use Rattle.script_text.specs.Meaning.{start, chariots_line, datacentres_line, ro
 use Rattle.script_text.specs.Fits.{FitsCommand, FitsPlan, commands_of}
 use Rattle.script_text.specs.Spelled.{letter, command_words, plan_lines, stages_words, first_words, datacentres_words, round_words, before_steps, steps_words, end_words, said_words, Spells, IsBuiltSizes, IsBuiltCommand, AreGivenOnce, IsBuiltStages, IsWritten}
 use Rattle.script_text.proofs.MeaningLemmas.{with_command-last}
-use Rattle.script_text.proofs.Sound.{or_false, IsBuiltPlan}
-use Rattle.script_text.proofs.Laid.{own}
+use Rattle.script_text.proofs.Sound.{or_false, neither_true, eq-sym, is_given-push, IsBuiltPlan}
+use Rattle.script_text.proofs.Laid.{own, IsLine}
 
 -- Tests that pass.
 
@@ -44,10 +44,6 @@ both_true false b first second = cc
 second_true : (a b : Bool) → b ≡ true → (a || b) ≡ true
 second_true true b second = refl
 second_true false b second = second
-
-neither_true : (a b : Bool) → a ≡ false → b ≡ false → (a || b) ≡ false
-neither_true true b first second = cc
-neither_true false b first second = second
 
 taken : {A : Type 0} (test : Bool) (x y : A) → test ≡ true → cond test x y ≡ x
 taken true x y h = refl
@@ -417,15 +413,6 @@ plans_lead here dcs round stages front count (plan ∷ more) all total place few
 abbrev IsNew : List StagesOf → StagesOf → Type 0
 IsNew front given = is_given front given.dc ≡ false
 
-is_given-push : (front : List StagesOf) (given : StagesOf) (dc : ℕ) → is_given front dc ≡ false → nat_eq given.dc dc ≡ false → is_given (front ++ given ∷ []) dc ≡ false
-is_given-push [] given dc before other = neither_true (nat_eq given.dc dc) false other refl
-is_given-push (first ∷ more) given dc before other =
-    let both = or_false (nat_eq first.dc dc) (is_given more dc) before in
-    neither_true (nat_eq first.dc dc) (is_given (more ++ given ∷ []) dc) both.0 (is_given-push more given dc both.1 other)
-
-eq-sym : (a b : ℕ) → nat_eq a b ≡ false → nat_eq b a ≡ false
-eq-sym a b h = grind (arith, nat_tests, h)
-
 still_new : (front : List StagesOf) (given : StagesOf) (more : List StagesOf) → All (IsNew front) more → is_given more given.dc ≡ false → All (IsNew (front ++ given ∷ [])) more
 still_new front given [] new other = All-nil (IsNew (front ++ given ∷ []))
 still_new front given (next ∷ later) new other =
@@ -462,9 +449,6 @@ all_lead dcs round stages plans one low high built once fits commands room small
     subst (λ (ls : List (List (List ℕ))). Leads begun ls end) (sym (append_assoc (map stages_words stages) (flat_map plan_lines plans) closing)) both))))))
 
 -- The text.
-
-abbrev IsLine : List ℕ → Type 0
-IsLine line = list_all is_line_byte line ≡ true
 
 over_reads : (said : Progress) (line : List ℕ) → IsLine line → is_passed_over line ≡ true → line_after said line ≡ Ok said
 unfolding line_after

@@ -23,10 +23,11 @@ pub fn read_script(alloc: Global, bytes: &[u8]) -> Result<Script, ScriptFault>
     ensures fits { IfOk result FitsScript }
     ensures spelled { IfOk result (λ script. Spells script (lines bytes.now)) }
 
-    // Lines that write a script as it has to be are read as that script.
+    // A script is read exactly from the lines that write it as it has to be written.
+    ensures written { IfOk result (λ script. IsWritten script (lines bytes.now)) }
     ensures only { (script : Script) → IsWritten script (lines bytes.now) → MatchResult result (λ found. found ≡ script) (λ fault. fault ≡ ScriptFault.NoMemory) }
 
-    // One datacentre, appends and reads are read yet.
+    // As yet it has one datacentre, appends and reads.
     ensures built { IfOk result (λ script. (script.workload.dcs ≡ 1) × All (λ plan. All IsBuiltCommand plan.commands) script.workload.sessions) }
 {
     read_lines(alloc, bytes)

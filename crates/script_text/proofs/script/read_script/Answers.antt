@@ -1,7 +1,6 @@
 use Rattle.script_text.specs.Lines.{lines}
 use Rattle.script_text.proofs.Accepted.{all-only}
-use Rattle.script_text.proofs.Laid.{all-spell}
-use Rattle.script_text.proofs.Sound.{all-fit, all-built}
+use Rattle.script_text.proofs.Laid.{all-written, all-spell, all-fit, all-built}
 use Rattle.script_text.proofs.script.read_script.Goals as goal
 
 pub returns-clause-fits : goal.returns-clause-fits
@@ -15,3 +14,6 @@ returns-clause-built c = all-built (lines c.args.bytes.now) c.read_lines.result 
 
 pub returns-clause-only : goal.returns-clause-only
 returns-clause-only c = all-only (lines c.args.bytes.now) c.read_lines.result c.read_lines.ensures.ok c.read_lines.ensures.bad
+
+pub returns-clause-written : goal.returns-clause-written
+returns-clause-written c = all-written (lines c.args.bytes.now) c.read_lines.result c.read_lines.ensures.ok
