@@ -83,16 +83,22 @@ decimal_reads least most n more some low high small =
     (number_form (decimal n) (digits_decimal own n (omega arith)) (decimal_nonempty n (omega arith)) (length-decimal-le 10 n (omega arith) (omega arith) (omega arith)) (first_decimal n (omega arith) (omega arith)))
     (digits_value-decimal own n (omega arith)) low high
 
-datacentre_reads : (dcs dc : ℕ) (more : List (List ℕ)) → dc < dcs → dcs ≤ 8 → datacentre_at dcs (letter dc ∷ more) ≡ Ok (dc, more)
-unfolding datacentre_at
-datacentre_reads dcs dc more within few =
+letter_form : (dcs dc : ℕ) → dc < dcs → dcs ≤ 8 → is_datacentre dcs (letter dc) ≡ true
+letter_form dcs dc within few =
     let low : nat_le 65 (65 + dc) ≡ true = grind (arith, nat_tests) in
     let high : nat_lt (65 + dc) (65 + dcs) ≡ true = grind (arith, nat_tests) in
     let top : nat_lt (65 + dc) 73 ≡ true = grind (arith, nat_tests) in
-    let form : is_datacentre dcs (letter dc) ≡ true
-    = both_true (nat_le 65 (65 + dc) && nat_lt (65 + dc) (65 + dcs)) (nat_lt (65 + dc) 73) (both_true (nat_le 65 (65 + dc)) (nat_lt (65 + dc) (65 + dcs)) low high) top in
-    let same : 65 + dc - 65 ≡ dc = omega arith in
-    taken (is_datacentre dcs (letter dc)) (Ok (65 + dc - 65, more)) (Err BadDatacentre) form ∙ ap (λ (k : ℕ). Ok (k, more)) same
+    both_true (nat_le 65 (65 + dc) && nat_lt (65 + dc) (65 + dcs)) (nat_lt (65 + dc) 73) (both_true (nat_le 65 (65 + dc)) (nat_lt (65 + dc) (65 + dcs)) low high) top
+
+letter_reads : (dcs : ℕ) (word : List ℕ) (more : List (List ℕ)) → is_datacentre dcs word ≡ true → datacentre_at dcs (word ∷ more) ≡ Ok (slice_index word 0 - 65, more)
+unfolding datacentre_at
+letter_reads dcs word more form = taken (is_datacentre dcs word) (Ok (slice_index word 0 - 65, more)) (Err BadDatacentre) form
+
+letter_value : (dc : ℕ) → slice_index (letter dc) 0 - 65 ≡ dc
+letter_value dc = omega arith
+
+datacentre_reads : (dcs dc : ℕ) (more : List (List ℕ)) → dc < dcs → dcs ≤ 8 → datacentre_at dcs (letter dc ∷ more) ≡ Ok (dc, more)
+datacentre_reads dcs dc more within few = letter_reads dcs (letter dc) more (letter_form dcs dc within few) ∙ ap (λ (k : ℕ). Ok (k, more)) (letter_value dc)
 
 body_form : (body : List ℕ) → IsBody body → is_body (61 ∷ body) ≡ true
 body_form body fits =
@@ -240,7 +246,7 @@ sizes_read s built =
       decimal_reads 1 16 s.maintainers (decimal s.indexers ∷ decimal s.senders ∷ decimal s.receivers ∷ []) (omega arith) built.maintainers.0 built.maintainers.1 (omega arith),
       one_reads s.indexers (decimal s.senders ∷ decimal s.receivers ∷ []) built.indexers,
       one_reads s.senders (decimal s.receivers ∷ []) built.senders,
-      one_reads s.receivers [] built.receivers
+      one_reads s.receivers [] built.receivers,
     ) refl
 
 full_sizes : (s : Sizes) → IsBuiltSizes s → list_any is_empty_word (sizes_words s) ≡ false
@@ -361,11 +367,14 @@ commands_lead dcs round stages front home done count [] all total fits built few
     let whole : done ≡ all = sym (append-nil done) ∙ same in
     let full_count : count ≡ total = omega (arith, counted) in
     ap₂ (λ (cs : List Command) (n : ℕ). said_at section.Sessions dcs round stages (with_plan front home cs) n) whole full_count
-commands_lead dcs round stages front home done count (c ∷ more) all total fits built few same counted =
-    (said_at section.Sessions dcs round stages (with_plan front home (done ++ c ∷ [])) (count + 1),
-    (command_takes dcs round stages front home done count c (All-head FitsCommand c more fits) (All-head IsBuiltCommand c more built) (omega (arith, counted, few)),
+commands_lead dcs round stages front home done count (c ∷ more) all total fits built few same counted = (
+  said_at section.Sessions dcs round stages (with_plan front home (done ++ c ∷ [])) (count + 1),
+  (
+    command_takes dcs round stages front home done count c (All-head FitsCommand c more fits) (All-head IsBuiltCommand c more built) (omega (arith, counted, few)),
     commands_lead dcs round stages front home (done ++ c ∷ []) (count + 1) more all total (All-tail FitsCommand c more fits) (All-tail IsBuiltCommand c more built) few
-    (append_assoc done (c ∷ []) more ∙ same) (omega (arith, counted))))
+        (append_assoc done (c ∷ []) more ∙ same) (omega (arith, counted)),
+  ),
+)
 
 abbrev closing : List (List (List ℕ))
 closing = steps_words ∷ end_words ∷ []
@@ -392,10 +401,19 @@ plans_lead : (here : Section) (dcs round : ℕ) (stages : List StagesOf) (front 
     → Leads (said_at here dcs round stages front count) (flat_map plan_lines left ++ closing) (said_at section.Ended dcs round stages all total)
 plans_lead here dcs round stages front count [] all total place few fits built room small same counted =
     let whole : front ≡ all = sym (append-nil front) ∙ same in
-    let full_count : count ≡ total = omega (arith, counted) in
-    (said_at section.Steps dcs round stages front count, (steps_takes here dcs round stages front count place,
-    (said_at section.Ended dcs round stages front count, (end_takes dcs round stages front count,
-    ap₂ (λ (ps : List SessionPlan) (n : ℕ). said_at section.Ended dcs round stages ps n) whole full_count))))
+    let full_count : count ≡ total = omega (arith, counted) in (
+      said_at section.Steps dcs round stages front count,
+      (
+        steps_takes here dcs round stages front count place,
+        (
+          said_at section.Ended dcs round stages front count,
+          (
+            end_takes dcs round stages front count,
+            ap₂ (λ (ps : List SessionPlan) (n : ℕ). said_at section.Ended dcs round stages ps n) whole full_count,
+          ),
+        ),
+      ),
+    )
 plans_lead here dcs round stages front count (plan ∷ more) all total place few fits built room small same counted =
     let first = All-head (FitsPlan dcs) plan more fits in
     let lead = commands_lead dcs round stages front plan.home [] count plan.commands plan.commands (count + length plan.commands)
@@ -405,9 +423,13 @@ plans_lead here dcs round stages front count (plan ∷ more) all total place few
     (append_assoc front (plan ∷ []) more ∙ same) (omega (arith, counted)) in
     let next : Progress = said_at section.Sessions dcs round stages (with_plan front plan.home []) count in
     let end : Progress = said_at section.Ended dcs round stages all total in
-    let both = leads_append next (said_at section.Sessions dcs round stages (front ++ plan ∷ []) (count + length plan.commands)) end (map command_words plan.commands) (flat_map plan_lines more ++ closing) lead rest in
-    (next, (session_takes here dcs round stages front count plan.home place first.home few (omega (arith, room)),
-    subst (λ (ls : List (List (List ℕ))). Leads next ls end) (sym (append_assoc (map command_words plan.commands) (flat_map plan_lines more) closing)) both))
+    let both = leads_append next (said_at section.Sessions dcs round stages (front ++ plan ∷ []) (count + length plan.commands)) end (map command_words plan.commands) (flat_map plan_lines more ++ closing) lead rest in (
+      next,
+      (
+        session_takes here dcs round stages front count plan.home place first.home few (omega (arith, room)),
+        subst (λ (ls : List (List (List ℕ))). Leads next ls end) (sym (append_assoc (map command_words plan.commands) (flat_map plan_lines more) closing)) both,
+      ),
+    )
 
 -- no line so far gave the sizes of that datacentre
 abbrev IsNew : List StagesOf → StagesOf → Type 0
@@ -425,11 +447,14 @@ stages_lead : (dcs round : ℕ) (front left all : List StagesOf) → dcs ≤ 8 �
     → Leads (said_at section.Stages dcs round front [] 0) (map stages_words left) (said_at section.Stages dcs round all [] 0)
 stages_lead dcs round front [] all few built once new same =
     ap (λ (given : List StagesOf). said_at section.Stages dcs round given [] 0) (sym (append-nil front) ∙ same)
-stages_lead dcs round front (given ∷ more) all few built once new same =
-    (said_at section.Stages dcs round (front ++ given ∷ []) [] 0,
-    (stages_takes dcs round front given few (All-head (IsBuiltStages dcs) given more built) (All-head (IsNew front) given more new),
+stages_lead dcs round front (given ∷ more) all few built once new same = (
+  said_at section.Stages dcs round (front ++ given ∷ []) [] 0,
+  (
+    stages_takes dcs round front given few (All-head (IsBuiltStages dcs) given more built) (All-head (IsNew front) given more new),
     stages_lead dcs round (front ++ given ∷ []) more all few (All-tail (IsBuiltStages dcs) given more built) once.1
-    (still_new front given more (All-tail (IsNew front) given more new) once.0) (append_assoc front (given ∷ []) more ∙ same)))
+        (still_new front given more (All-tail (IsNew front) given more new) once.0) (append_assoc front (given ∷ []) more ∙ same),
+  ),
+)
 
 -- all lines of a script, one after another
 all_lead : (dcs round : ℕ) (stages : List StagesOf) (plans : List SessionPlan) → dcs ≡ 1 → 1 ≤ round → round ≤ 1024 → All (IsBuiltStages dcs) stages → AreGivenOnce stages
@@ -442,11 +467,25 @@ all_lead dcs round stages plans one low high built once fits commands room small
     let end : Progress = said_at section.Ended dcs round stages plans (commands_of plans) in
     let given = stages_lead dcs round [] stages stages few built once (λ k d within. refl) refl in
     let sessions = plans_lead section.Stages dcs round stages [] 0 plans plans (commands_of plans) refl few fits commands (omega (arith, room)) small refl (omega arith) in
-    let both = leads_append begun (said_at section.Stages dcs round stages [] 0) end (map stages_words stages) (flat_map plan_lines plans ++ closing) given sessions in
-    (said_at section.Datacentres 0 0 [] [] 0, (chariots_takes,
-    (said_at section.Round dcs 0 [] [] 0, (datacentres_takes dcs one,
-    (begun, (round_takes dcs round low high,
-    subst (λ (ls : List (List (List ℕ))). Leads begun ls end) (sym (append_assoc (map stages_words stages) (flat_map plan_lines plans) closing)) both))))))
+    let both = leads_append begun (said_at section.Stages dcs round stages [] 0) end (map stages_words stages) (flat_map plan_lines plans ++ closing) given sessions in (
+      said_at section.Datacentres 0 0 [] [] 0,
+      (
+        chariots_takes,
+        (
+          said_at section.Round dcs 0 [] [] 0,
+          (
+            datacentres_takes dcs one,
+            (
+              begun,
+              (
+                round_takes dcs round low high,
+                subst (λ (ls : List (List (List ℕ))). Leads begun ls end) (sym (append_assoc (map stages_words stages) (flat_map plan_lines plans) closing)) both,
+              ),
+            ),
+          ),
+        ),
+      ),
+    )
 
 -- The text.
 

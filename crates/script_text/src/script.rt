@@ -12,9 +12,9 @@ use crate::progress::Progress;
 use abstract_log::Script;
 use std::alloc::Global;
 
-/// The script that the bytes spell, or the first bad line with its first cause. Lines count from 1;
-/// where the input ends before `end`, the bad line is the one after the last.
-/// The count stands still at 2^32 - 1.
+/// The script that the bytes spell, or the first bad line with its first cause. Lines count from 1,
+/// and the count stands still at 2^32 - 1; where the input ends before `end`, the bad line is the
+/// one after the last.
 pub fn read_script(alloc: Global, bytes: &[u8]) -> Result<Script, ScriptFault>
     ensures ok { IfOk result (λ script. script_of (lines bytes.now) ≡ Ok script) }
     ensures bad { (line : ℕ) (cause : Cause) → IsErrOf result (ScriptFault.Bad line cause) → script_of (lines bytes.now) ≡ Err (ScriptFault.Bad line cause) }
