@@ -1,11 +1,12 @@
 -- What has been said is what the lines so far write.
-use Rattle.std.proofs.Common.{◌≡◌, ◌<◌, ◌≤◌, ◌+◌, ◌-◌, ◌^◌, ℕ, List, [], ◌∷◌, ◌++◌, length, refl, ap, sym, subst, ◌∙◌, arith, Bool, true, false, cond, not, ◌&&◌, ◌||◌, nat_eq, ◌⊎◌, inl, inr, map, append_assoc, lit<, rules}
+use Rattle.std.proofs.Common.{◌≡◌, ◌<◌, ◌≤◌, ◌+◌, ◌-◌, ◌^◌, ℕ, List, [], ◌∷◌, ◌++◌, length, refl, ap, sym, subst, ◌∙◌, arith, Bool, true, false, cond, not, ◌&&◌, ◌||◌, nat_eq, ◌⊎◌, inl, inr, map, append_assoc, lit<, rules, All}
 use Rattle.std.specs.Prelude.{nat_le, nat_lt, Ok, Err, Result, Option, Some, None, is_none, drop, slice_index, IfOk, codes, bytes_eq}
 use Rattle.std.specs.List.{list_all, list_any, find, flat_map}
 use Rattle.std.specs.Fmt.{decimal}
 use Rattle.std.proofs.lemmas.Bool.Decides.{nat_tests}
 use Rattle.std.proofs.lemmas.Grind.{flat_map-append}
 use Rattle.std.proofs.lemmas.List.{map-append, append-nil}
+use Rattle.std.proofs.lemmas.List.Elements.{All-nil, All-cons}
 use Rattle.std.proofs.lemmas.Str.Parse.{IsNumeralModel, IsDigitsTest, numerals_by_value}
 use Rattle.std.proofs.lemmas.Fmt.{decimal-digits_value}
 use Rattle.std.proofs.lemmas.Slice.Eq.{bytes_eq-Decides}
@@ -29,16 +30,18 @@ use Rattle.script_text.specs.declared.progress.Stages.{Stages as StagesOf}
 use Rattle.script_text.specs.Words.{is_digit, is_number, number_of, is_datacentre, is_name, is_body, words, is_line_byte, is_empty_word}
 use Rattle.script_text.specs.Reading.{number_in, number_at, datacentre_at, body_in, body_at, names_in}
 use Rattle.script_text.specs.Keywords.{text_of, keywords, keyword_of, stands, is_built, least_words, most_words, is_start, is_datacentres, is_round, is_stages, is_sessions, is_steps, is_ended}
-use Rattle.script_text.specs.Meaning.{start, chariots_line, datacentres_line, round_line, sizes_at, stages_line, session_line, onto_last, with_command, append_line, read_line, command_meaning, meaning, keyword_after, words_after, is_passed_over, line_after, is_given, script_said, told, script_from, script_of}
-use Rattle.script_text.specs.Spelled.{letter, command_words, plan_lines, stages_words, first_words, datacentres_words, round_words, before_steps, steps_words, end_words, said_words, Spells}
-use Rattle.script_text.proofs.Sound.{IsSound, start-sound, line-sound, okay, okay-same, bind_ok, guard_ok, pass_ok, and_both, not_false, or_false, told_ok}
+use Rattle.script_text.specs.Meaning.{start, chariots_line, datacentres_line, round_line, sizes_at, stages_line, session_line, onto_last, with_command, append_line, read_line, command_meaning, meaning, keyword_after, words_after, is_passed_over, line_after, is_given, script_said, told, next_number, script_from, script_of}
+use Rattle.script_text.specs.Spelled.{letter, command_words, plan_lines, stages_words, first_words, datacentres_words, round_words, before_steps, steps_words, end_words, said_words, Spells, IsBuiltCommand, IsWritten}
+use Rattle.script_text.specs.Fits.{FitsScript}
+use Rattle.script_text.proofs.Sound.{IsSound, start-sound, line-sound, said-fits, rank-ended, okay, okay-same, bind_ok, guard_ok, pass_ok, and_both, not_false, or_false, told_ok}
 
 -- Words.
 
 digits_test : IsDigitsTest (λ ds. list_all is_digit ds ≡ true)
 digits_test = search rules
 
-own : IsNumeralModel (λ ds. list_all is_digit ds ≡ true) number_of
+-- the digits of a number word are a numeral
+pub own : IsNumeralModel (λ ds. list_all is_digit ds ≡ true) number_of
 own = numerals_by_value (λ ds. list_all is_digit ds ≡ true) digits_test
 
 le_one : (n : ℕ) → nat_le n 1 ≡ true → n ≤ 1
@@ -570,11 +573,21 @@ joined : (over : Bool) (line : List (List ℕ)) (more : List (List (List ℕ))) 
 joined true line more = refl
 joined false line more = refl
 
+-- a line of bytes that lines may have
+abbrev pub IsLine : List ℕ → Type 0
+IsLine line = list_all is_line_byte line ≡ true
+
+line_bytes : (said after : Progress) (line : List ℕ) → line_after said line ≡ Ok after → IsLine line
+unfolding line_after
+line_bytes said after line same = not_false (list_all is_line_byte line) (guard_ok (not (list_all is_line_byte line)) _ _ after same).0
+
 -- what is said at the end, and what its lines write
 pub record Ends (said : Progress) (left : List (List ℕ)) (script : Script) : Type 0 where
   pub at_end : Progress
   pub is : script_said at_end ≡ script
-  pub steps : at_end.steps ≡ []
+  pub ended : is_ended at_end.section ≡ true
+  pub sound : IsSound at_end
+  pub bytes : All IsLine left
   pub more : so_far_at section.Ended at_end ≡ so_far_at said.section said ++ said_words left
 
 script_from-ends : (said : Progress) (number : ℕ) (left : List (List ℕ)) (script : Script) → laid_at said.section said → IsSound said → script_from said number left ≡ Ok script → Ends said left script
@@ -583,36 +596,66 @@ script_from-ends said number [] script laid sound same =
     record {
       at_end = said;
       is = cc (ended.1);
-      steps = sound.steps;
+      ended = ended.0;
+      sound = sound;
+      bytes = All-nil IsLine;
       more = ap (λ (s : Section). so_far_at s said) (sym (at-ended said.section ended.0)) ∙ sym (append-nil (so_far_at said.section said));
     }
 script_from-ends said number (line ∷ more) script laid sound same =
-    let step = bind_ok (told number (line_after said line)) (λ after. script_from after (number + 1) more) script same in
+    let step = bind_ok (told number (line_after said line)) (λ after. script_from after (next_number number) more) script same in
     let on = told_ok number (line_after said line) step.0 step.1.0 in
     let adds = line-adds said step.0 line laid on in
-    let ends = script_from-ends step.0 (number + 1) more script adds.0 (line-sound said step.0 line sound on) step.1.1 in
+    let ends = script_from-ends step.0 (next_number number) more script adds.0 (line-sound said step.0 line sound on) step.1.1 in
     let here : List (List (List ℕ)) = so_far_at said.section said in
     let grown = ap (λ (ls : List (List (List ℕ))). ls ++ said_words more) adds.1 in
     record {
       at_end = ends.at_end;
       is = ends.is;
-      steps = ends.steps;
+      ended = ends.ended;
+      sound = ends.sound;
+      bytes = All-cons IsLine line more (line_bytes said step.0 line on) ends.bytes;
       more = ends.more ∙ grown ∙ append_assoc here (cond (is_passed_over line) [] (words line ∷ [])) (said_words more)
           ∙ ap (λ (ls : List (List (List ℕ))). here ++ ls) (joined (is_passed_over line) (words line) (said_words more));
     }
 
--- lines from which a script is read are its lines
-pub script_of-spells : (lines : List (List ℕ)) (script : Script) → script_of lines ≡ Ok script → Spells script lines
-script_of-spells lines script same =
+-- lines from which a script is read write it
+script_of-written : (lines : List (List ℕ)) (script : Script) → script_of lines ≡ Ok script → IsWritten script lines
+script_of-written lines script same =
     let ends = script_from-ends start 1 lines script (refl, refl) start-sound same in
+    let late = rank-ended ends.at_end.section ends.ended in
     let spelled : Spells (script_said ends.at_end) lines = record {
       stages = ends.at_end.stages;
       sizes = refl;
-      steps = ends.steps;
+      steps = ends.sound.steps;
       written = sym ends.more;
     } in
-    subst (λ (s : Script). Spells s lines) ends.is spelled
+    let written : IsWritten (script_said ends.at_end) lines = record {
+      spells = spelled;
+      bytes = ends.bytes;
+      stages = ends.sound.given;
+      once = ends.sound.once;
+      fits = said-fits ends.at_end ends.sound (omega (arith, late));
+      commands = ends.sound.built;
+      one = ends.sound.one (omega (arith, late));
+    } in
+    subst (λ (s : Script). IsWritten s lines) ends.is written
+
+pub all-written : (lines : List (List ℕ)) (result : Result Script ScriptFault) → IfOk result (λ script. script_of lines ≡ Ok script) → IfOk result (λ script. IsWritten script lines)
+all-written lines (Ok script) same = script_of-written lines script same
+all-written lines (Err fault) same = tt
 
 pub all-spell : (lines : List (List ℕ)) (result : Result Script ScriptFault) → IfOk result (λ script. script_of lines ≡ Ok script) → IfOk result (λ script. Spells script lines)
-all-spell lines (Ok script) same = script_of-spells lines script same
+all-spell lines (Ok script) same = (script_of-written lines script same).spells
 all-spell lines (Err fault) same = tt
+
+pub all-fit : (lines : List (List ℕ)) (result : Result Script ScriptFault) → IfOk result (λ script. script_of lines ≡ Ok script) → IfOk result FitsScript
+all-fit lines (Ok script) same = (script_of-written lines script same).fits
+all-fit lines (Err fault) same = tt
+
+-- a script that is read yet
+abbrev IsBuiltScript : Script → Type 0
+IsBuiltScript script = (script.workload.dcs ≡ 1) × All (λ plan. All IsBuiltCommand plan.commands) script.workload.sessions
+
+pub all-built : (lines : List (List ℕ)) (result : Result Script ScriptFault) → IfOk result (λ script. script_of lines ≡ Ok script) → IfOk result IsBuiltScript
+all-built lines (Ok script) same = let written = script_of-written lines script same in (written.one, written.commands)
+all-built lines (Err fault) same = tt

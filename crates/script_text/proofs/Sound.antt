@@ -1,5 +1,5 @@
 -- What is said so far keeps the ranges, line after line.
-use Rattle.std.proofs.Common.{◌≡◌, ◌<◌, ◌≤◌, ◌+◌, ◌-◌, ℕ, zero, suc, List, [], ◌∷◌, ◌++◌, length, length-append, refl, ap, sym, subst, ◌∙◌, arith, Bool, true, false, cond, not, ◌&&◌, ◌||◌, nat_eq, ◌⊎◌, inl, inr, All}
+use Rattle.std.proofs.Common.{◌≡◌, ◌<◌, ◌≤◌, ◌+◌, ◌-◌, ℕ, zero, suc, List, [], ◌∷◌, ◌++◌, length, length-append, refl, ap, sym, subst, ◌∙◌, arith, Bool, true, false, cond, not, ◌&&◌, ◌||◌, nat_eq, ◌⊎◌, inl, inr, All, get_or}
 use Rattle.std.specs.Prelude.{nat_le, nat_lt, Ok, Err, Result, Option, Some, None, is_none, drop, slice_index, IfSome, IfOk}
 use Rattle.std.specs.List.{list_all, list_any, find}
 use Rattle.std.proofs.lemmas.Bool.Decides.{nat_tests}
@@ -25,8 +25,9 @@ use Rattle.script_text.specs.declared.progress.Stages.{Stages as StagesOf}
 use Rattle.script_text.specs.Words.{is_number, number_of, is_datacentre, is_name, is_body, words, is_line_byte, is_empty_word}
 use Rattle.script_text.specs.Reading.{◌>>=◌, number_in, number_at, datacentre_at, body_in, body_at, names_in}
 use Rattle.script_text.specs.Keywords.{keyword_of, stands, is_built, least_words, most_words, is_start, is_datacentres, is_round, is_stages, is_sessions, is_steps, is_ended}
-use Rattle.script_text.specs.Meaning.{start, chariots_line, datacentres_line, round_line, sizes_at, stages_line, session_line, onto_last, with_command, append_line, read_line, command_meaning, meaning, keyword_after, words_after, is_passed_over, line_after, is_given, sizes_found, sizes_given, sizes_upto, script_said, told, script_from, script_of}
+use Rattle.script_text.specs.Meaning.{start, chariots_line, datacentres_line, round_line, sizes_at, stages_line, session_line, onto_last, with_command, append_line, read_line, command_meaning, meaning, keyword_after, words_after, is_passed_over, line_after, is_given, sizes_found, sizes_given, sizes_upto, script_said, told, next_number, script_from, script_of}
 use Rattle.script_text.specs.Fits.{IsSize, FitsSizes, FitsCommand, FitsPlan, commands_of, FitsScript}
+use Rattle.script_text.specs.Spelled.{IsBuiltCommand, IsBuiltSizes, IsBuiltStages, AreGivenOnce}
 
 -- where a section stands
 abbrev pub rank : Section → ℕ
@@ -102,7 +103,7 @@ rank-steps section.Sessions h = cc
 rank-steps section.Steps h = refl
 rank-steps section.Ended h = cc
 
-rank-ended : (here : Section) → is_ended here ≡ true → rank here ≡ 6
+pub rank-ended : (here : Section) → is_ended here ≡ true → rank here ≡ 6
 rank-ended section.Start h = cc
 rank-ended section.Datacentres h = cc
 rank-ended section.Round h = cc
@@ -244,13 +245,21 @@ names_take left tags same =
     let form = pass_ok (list_all is_name left) _ _ tags same in
     (cc (form.1), names_are left form.0)
 
-one_is_size : IsSize 1
-one_is_size = (omega arith, omega arith)
+one_is_size : (n : ℕ) → n ≡ 1 → IsSize n
+one_is_size n one = (omega arith, omega arith)
 
-is_size : (n : ℕ) → 1 ≤ n → n ≤ 16 → IsSize n
-is_size n low high = (low, high)
+built_sizes-fit : (s : Sizes) → IsBuiltSizes s → FitsSizes s
+built_sizes-fit s built = record {
+  batchers = one_is_size s.batchers built.batchers;
+  filters = one_is_size s.filters built.filters;
+  queues = one_is_size s.queues built.queues;
+  maintainers = built.maintainers;
+  indexers = one_is_size s.indexers built.indexers;
+  senders = one_is_size s.senders built.senders;
+  receivers = one_is_size s.receivers built.receivers;
+}
 
-sizes_take : (left : List (List ℕ)) (x : Sizes × List (List ℕ)) → sizes_at left ≡ Ok x → FitsSizes x.0
+sizes_take : (left : List (List ℕ)) (x : Sizes × List (List ℕ)) → sizes_at left ≡ Ok x → IsBuiltSizes x.0
 unfolding sizes_at
 sizes_take left x same =
     let one = bind_ok (number_at 1 1 left) _ x same in
@@ -269,42 +278,79 @@ sizes_take left x same =
     let g = number_takes 1 1 six.0.1 seven.0 seven.1.0 in
     let made : Sizes = record { batchers = one.0.0; filters = two.0.0; queues = three.0.0; maintainers = four.0.0; indexers = five.0.0; senders = six.0.0; receivers = seven.0.0 } in
     let pair : (made, seven.0.1) ≡ x = okay-same (made, seven.0.1) x seven.1.1 in
-    let fits : FitsSizes made = record {
-      batchers = is_size one.0.0 a.least_is (omega (arith, a.most_is));
-      filters = is_size two.0.0 b.least_is (omega (arith, b.most_is));
-      queues = is_size three.0.0 c.least_is (omega (arith, c.most_is));
-      maintainers = is_size four.0.0 d.least_is d.most_is;
-      indexers = is_size five.0.0 e.least_is (omega (arith, e.most_is));
-      senders = is_size six.0.0 f.least_is (omega (arith, f.most_is));
-      receivers = is_size seven.0.0 g.least_is (omega (arith, g.most_is));
+    let built : IsBuiltSizes made = record {
+      batchers = omega (arith, a.least_is, a.most_is);
+      filters = omega (arith, b.least_is, b.most_is);
+      queues = omega (arith, c.least_is, c.most_is);
+      maintainers = (d.least_is, d.most_is);
+      indexers = omega (arith, e.least_is, e.most_is);
+      senders = omega (arith, f.least_is, f.most_is);
+      receivers = omega (arith, g.least_is, g.most_is);
     } in
-    subst (λ (p : Sizes × List (List ℕ)). FitsSizes p.0) pair fits
+    subst (λ (p : Sizes × List (List ℕ)). IsBuiltSizes p.0) pair built
 
--- What has been said keeps the ranges.
+-- What has been said keeps the ranges, and is built.
+
+-- all commands of a session are read yet
+abbrev pub IsBuiltPlan : SessionPlan → Type 0
+IsBuiltPlan plan = All IsBuiltCommand plan.commands
 
 pub record IsSound (said : Progress) : Type 0 where
   pub dcs : 2 ≤ rank said.section → (1 ≤ said.dcs) × (said.dcs ≤ 8)
   pub round : 3 ≤ rank said.section → (1 ≤ said.round) × (said.round ≤ 1024)
   pub begun : rank said.section ≤ 3 → said.sessions ≡ []
-  pub stages : All (λ (given : StagesOf). FitsSizes given.sizes) said.stages
+  pub bare : rank said.section ≤ 2 → said.stages ≡ []
+  pub given : All (IsBuiltStages said.dcs) said.stages
+  pub once : AreGivenOnce said.stages
   pub few : length said.sessions ≤ 64
   pub plans : All (FitsPlan said.dcs) said.sessions
   pub counted : said.commands ≡ commands_of said.sessions
   pub within : said.commands ≤ 16384
   pub steps : said.steps ≡ []
+  pub one : 2 ≤ rank said.section → said.dcs ≡ 1
+  pub built : All IsBuiltPlan said.sessions
 
 pub start-sound : IsSound start
 start-sound = record {
   dcs = λ h. absurd (omega arith);
   round = λ h. absurd (omega arith);
   begun = λ h. refl;
-  stages = All-nil (λ (given : StagesOf). FitsSizes given.sizes);
+  bare = λ h. refl;
+  given = All-nil (IsBuiltStages 0);
+  once = tt;
   few = omega arith;
   plans = All-nil (FitsPlan 0);
   counted = refl;
   within = omega arith;
   steps = refl;
+  one = λ h. absurd (omega arith);
+  built = All-nil IsBuiltPlan;
 }
+
+-- the sizes of a datacentre that no line gave so far
+
+pub neither_true : (a b : Bool) → a ≡ false → b ≡ false → (a || b) ≡ false
+neither_true true b first second = cc
+neither_true false b first second = second
+
+pub eq-sym : (a b : ℕ) → nat_eq a b ≡ false → nat_eq b a ≡ false
+eq-sym a b h = grind (arith, nat_tests, h)
+
+pub is_given-push : (front : List StagesOf) (given : StagesOf) (dc : ℕ) → is_given front dc ≡ false → nat_eq given.dc dc ≡ false → is_given (front ++ given ∷ []) dc ≡ false
+is_given-push [] given dc before other = neither_true (nat_eq given.dc dc) false other refl
+is_given-push (first ∷ more) given dc before other =
+    let both = or_false (nat_eq first.dc dc) (is_given more dc) before in
+    neither_true (nat_eq first.dc dc) (is_given (more ++ given ∷ []) dc) both.0 (is_given-push more given dc both.1 other)
+
+once-push : (front : List StagesOf) (given : StagesOf) → AreGivenOnce front → is_given front given.dc ≡ false → AreGivenOnce (front ++ given ∷ [])
+once-push [] given once new = (refl, tt)
+once-push (first ∷ more) given once new =
+    let both = or_false (nat_eq first.dc given.dc) (is_given more given.dc) new in
+    (is_given-push more given first.dc once.0 (eq-sym first.dc given.dc both.0), once-push more given once.1 both.1)
+
+-- where no line gave sizes, all that did keep anything
+none_given : (dcs : ℕ) (stages : List StagesOf) → stages ≡ [] → All (IsBuiltStages dcs) stages
+none_given dcs stages none = subst (λ (gs : List StagesOf). All (IsBuiltStages dcs) gs) (sym none) (All-nil (IsBuiltStages dcs))
 
 -- where no session has begun, all sessions keep anything
 none_fits : (dcs : ℕ) (plans : List SessionPlan) → plans ≡ [] → All (FitsPlan dcs) plans
@@ -319,12 +365,16 @@ chariots-sound said after left here sound same =
       dcs = λ h. absurd (omega arith);
       round = λ h. absurd (omega arith);
       begun = λ h. sound.begun (omega arith);
-      stages = sound.stages;
+      bare = λ h. sound.bare (omega arith);
+      given = sound.given;
+      once = sound.once;
       few = sound.few;
       plans = sound.plans;
       counted = sound.counted;
       within = sound.within;
       steps = sound.steps;
+      one = λ h. absurd (omega arith);
+      built = sound.built;
     })
 
 datacentres-sound : (said after : Progress) (left : List (List ℕ)) → rank said.section ≡ 1 → IsSound said → datacentres_line said left ≡ Ok after → IsSound after
@@ -337,12 +387,16 @@ datacentres-sound said after left here sound same =
       dcs = λ h. (n.least_is, omega (arith, n.most_is));
       round = λ h. absurd (omega arith);
       begun = λ h. sound.begun (omega arith);
-      stages = sound.stages;
+      bare = λ h. sound.bare (omega arith);
+      given = none_given read.0.0 said.stages (sound.bare (omega arith));
+      once = sound.once;
       few = sound.few;
       plans = none_fits read.0.0 said.sessions (sound.begun (omega arith));
       counted = sound.counted;
       within = sound.within;
       steps = sound.steps;
+      one = λ h. omega (arith, n.least_is, n.most_is);
+      built = sound.built;
     })
 
 round-sound : (said after : Progress) (left : List (List ℕ)) → rank said.section ≡ 2 → IsSound said → round_line said left ≡ Ok after → IsSound after
@@ -355,17 +409,21 @@ round-sound said after left here sound same =
       dcs = λ h. sound.dcs (omega arith);
       round = λ h. (n.least_is, n.most_is);
       begun = λ h. sound.begun (omega arith);
-      stages = sound.stages;
+      bare = λ h. absurd (omega arith);
+      given = sound.given;
+      once = sound.once;
       few = sound.few;
       plans = sound.plans;
       counted = sound.counted;
       within = sound.within;
       steps = sound.steps;
+      one = λ h. sound.one (omega arith);
+      built = sound.built;
     })
 
-stages-sound : (said after : Progress) (left : List (List ℕ)) → IsSound said → stages_line said left ≡ Ok after → IsSound after
+stages-sound : (said after : Progress) (left : List (List ℕ)) → rank said.section ≡ 3 → IsSound said → stages_line said left ≡ Ok after → IsSound after
 unfolding stages_line
-stages-sound said after left sound same =
+stages-sound said after left here sound same =
     let dc = bind_ok (datacentre_at said.dcs left) _ after same in
     let sizes = bind_ok (sizes_at dc.0.1) _ after dc.1.1 in
     let new = guard_ok (is_given said.stages dc.0.0) _ _ after sizes.1.1 in
@@ -375,12 +433,16 @@ stages-sound said after left sound same =
       dcs = sound.dcs;
       round = sound.round;
       begun = sound.begun;
-      stages = All-push (λ (g : StagesOf). FitsSizes g.sizes) said.stages given sound.stages (sizes_take dc.0.1 sizes.0 sizes.1.0);
+      bare = λ h. absurd (omega arith);
+      given = All-push (IsBuiltStages said.dcs) said.stages given sound.given (record { dc = datacentre_takes said.dcs left dc.0 dc.1.0; sizes = sizes_take dc.0.1 sizes.0 sizes.1.0 });
+      once = once-push said.stages given sound.once new.0;
       few = sound.few;
       plans = sound.plans;
       counted = sound.counted;
       within = sound.within;
       steps = sound.steps;
+      one = sound.one;
+      built = sound.built;
     })
 
 commands_of-push : (plans : List SessionPlan) (home : ℕ) → commands_of (plans ++ record { home = home; commands = [] } ∷ []) ≡ commands_of plans
@@ -400,12 +462,16 @@ session-sound said after left here sound same =
       dcs = λ h. sound.dcs (omega arith);
       round = λ h. sound.round (omega arith);
       begun = λ h. absurd (omega arith);
-      stages = sound.stages;
+      bare = λ h. absurd (omega arith);
+      given = sound.given;
+      once = sound.once;
       few = omega (arith, length-append said.sessions (plan ∷ []), fewer);
       plans = All-push (FitsPlan said.dcs) said.sessions plan sound.plans (record { home = datacentre_takes said.dcs left home.0 home.1.0; commands = All-nil FitsCommand });
       counted = sound.counted ∙ sym (commands_of-push said.sessions home.0.0);
       within = sound.within;
       steps = sound.steps;
+      one = λ h. sound.one (omega arith);
+      built = All-push IsBuiltPlan said.sessions plan sound.built (All-nil IsBuiltCommand);
     })
 
 onto_last-fits : (dcs : ℕ) (plans : List SessionPlan) (c : Command) → FitsCommand c → All (FitsPlan dcs) plans → All (FitsPlan dcs) (onto_last plans c)
@@ -418,6 +484,15 @@ onto_last-fits dcs (plan ∷ next ∷ more) c fits all =
     All-cons (FitsPlan dcs) plan (onto_last (next ∷ more) c) (All-head (FitsPlan dcs) plan (next ∷ more) all)
     (onto_last-fits dcs (next ∷ more) c fits (All-tail (FitsPlan dcs) plan (next ∷ more) all))
 
+onto_last-built : (plans : List SessionPlan) (c : Command) → IsBuiltCommand c → All IsBuiltPlan plans → All IsBuiltPlan (onto_last plans c)
+onto_last-built [] c now all = All-nil IsBuiltPlan
+onto_last-built (plan ∷ []) c now all =
+    let more : SessionPlan = record { home = plan.home; commands = plan.commands ++ c ∷ [] } in
+    All-cons IsBuiltPlan more [] (All-push IsBuiltCommand plan.commands c (All-head IsBuiltPlan plan [] all) now) (All-nil IsBuiltPlan)
+onto_last-built (plan ∷ next ∷ more) c now all =
+    All-cons IsBuiltPlan plan (onto_last (next ∷ more) c) (All-head IsBuiltPlan plan (next ∷ more) all)
+    (onto_last-built (next ∷ more) c now (All-tail IsBuiltPlan plan (next ∷ more) all))
+
 length-onto_last : (plans : List SessionPlan) (c : Command) → length (onto_last plans c) ≡ length plans
 length-onto_last [] c = refl
 length-onto_last (plan ∷ []) c = refl
@@ -428,9 +503,9 @@ commands_of-onto_last [] c some = absurd (omega arith)
 commands_of-onto_last (plan ∷ []) c some = omega (arith, length-append plan.commands (c ∷ []))
 commands_of-onto_last (plan ∷ next ∷ more) c some = omega (arith, commands_of-onto_last (next ∷ more) c (omega arith))
 
-command-sound : (said after : Progress) (c : Command) → rank said.section ≡ 4 → FitsCommand c → IsSound said → with_command said c ≡ Ok after → IsSound after
+command-sound : (said after : Progress) (c : Command) → rank said.section ≡ 4 → FitsCommand c → IsBuiltCommand c → IsSound said → with_command said c ≡ Ok after → IsSound after
 unfolding with_command
-command-sound said after c here fits sound same =
+command-sound said after c here fits now sound same =
     let room = guard_ok (nat_le 16384 said.commands) _ _ after same in
     let begun = guard_ok (nat_eq (length said.sessions) 0) _ _ after room.1 in
     let is : record said { sessions = onto_last said.sessions c; commands = said.commands + 1 } ≡ after = cc (begun.1) in
@@ -440,12 +515,16 @@ command-sound said after c here fits sound same =
       dcs = sound.dcs;
       round = sound.round;
       begun = λ h. absurd (omega arith);
-      stages = sound.stages;
+      bare = λ h. absurd (omega arith);
+      given = sound.given;
+      once = sound.once;
       few = omega (arith, length-onto_last said.sessions c, sound.few);
       plans = onto_last-fits said.dcs said.sessions c fits sound.plans;
       counted = omega (arith, commands_of-onto_last said.sessions c some, sound.counted);
       within = omega (arith, fewer);
       steps = sound.steps;
+      one = sound.one;
+      built = onto_last-built said.sessions c now sound.built;
     })
 
 append-sound : (said after : Progress) (left : List (List ℕ)) → rank said.section ≡ 4 → length left ≤ 9 → IsSound said → append_line said left ≡ Ok after → IsSound after
@@ -456,14 +535,14 @@ append-sound said after left here few sound same =
     let taken = body_takes left body.0 body.1.0 in
     let named = names_take body.0.1 tags.0 tags.1.0 in
     let short : length tags.0 ≤ 8 = omega (arith, taken.shorter, ap (λ (ws : List (List ℕ)). length ws) named.0, few) in
-    command-sound said after (command.Append tags.0 body.0.0) here (short, (subst (λ (ws : List (List ℕ)). All IsName ws) named.0 named.1, taken.body)) sound tags.1.1
+    command-sound said after (command.Append tags.0 body.0.0) here (short, (subst (λ (ws : List (List ℕ)). All IsName ws) named.0 named.1, taken.body)) tt sound tags.1.1
 
 read-sound : (said after : Progress) (left : List (List ℕ)) → rank said.section ≡ 4 → IsSound said → read_line said left ≡ Ok after → IsSound after
 unfolding read_line
 read-sound said after left here sound same =
     let lid = bind_ok (number_at 1 4294967295 left) _ after same in
     let n = number_takes 1 4294967295 left lid.0 lid.1.0 in
-    command-sound said after (command.Read lid.0.0) here (n.least_is, omega (arith, n.most_is)) sound lid.1.1
+    command-sound said after (command.Read lid.0.0) here (n.least_is, omega (arith, n.most_is)) tt sound lid.1.1
 
 command_line-sound : (said after : Progress) (word : CommandWord) (left : List (List ℕ)) → rank said.section ≡ 4 → length left ≤ most_words (CommandLine word) → IsSound said → command_meaning said word left ≡ Ok after → IsSound after
 command_line-sound said after Append left here few sound same = append-sound said after left here few sound same
@@ -481,19 +560,23 @@ section-sound said after next here later sound same =
       dcs = λ h. sound.dcs (omega arith);
       round = λ h. sound.round (omega arith);
       begun = λ h. absurd (omega arith);
-      stages = sound.stages;
+      bare = λ h. absurd (omega arith);
+      given = sound.given;
+      once = sound.once;
       few = sound.few;
       plans = sound.plans;
       counted = sound.counted;
       within = sound.within;
       steps = sound.steps;
+      one = λ h. sound.one (omega arith);
+      built = sound.built;
     })
 
 meaning-sound : (said after : Progress) (keyword : Keyword) (left : List (List ℕ)) → stands keyword said.section ≡ true → length left ≤ most_words keyword → IsSound said → meaning said keyword left ≡ Ok after → IsSound after
 meaning-sound said after Chariots left here few sound same = chariots-sound said after left (rank-start said.section here) sound same
 meaning-sound said after Datacentres left here few sound same = datacentres-sound said after left (rank-datacentres said.section here) sound same
 meaning-sound said after Round left here few sound same = round-sound said after left (rank-round said.section here) sound same
-meaning-sound said after Stages left here few sound same = stages-sound said after left sound same
+meaning-sound said after Stages left here few sound same = stages-sound said after left (rank-stages said.section here) sound same
 meaning-sound said after Session left here few sound same = session-sound said after left (rank-either said.section here) sound same
 meaning-sound said after (CommandLine word) left here few sound same = command_line-sound said after word left (rank-sessions said.section here) few sound same
 meaning-sound said after Steps left here few sound same = section-sound said after section.Steps (rank-either said.section here) (omega arith) sound same
@@ -529,7 +612,7 @@ line-sound said after line sound same =
     ]
 
 sizes_found-fits : (given : Option StagesOf) → IfSome given (λ g. FitsSizes g.sizes) → FitsSizes (sizes_found given)
-sizes_found-fits None fits = record { batchers = one_is_size; filters = one_is_size; queues = one_is_size; maintainers = one_is_size; indexers = one_is_size; senders = one_is_size; receivers = one_is_size }
+sizes_found-fits None fits = let size : IsSize 1 = one_is_size 1 refl in record { batchers = size; filters = size; queues = size; maintainers = size; indexers = size; senders = size; receivers = size }
 sizes_found-fits (Some given) fits = fits
 
 find-fits : (test : StagesOf → Bool) (stages : List StagesOf) → All (λ (g : StagesOf). FitsSizes g.sizes) stages → IfSome (find test stages) (λ g. FitsSizes g.sizes)
@@ -559,23 +642,6 @@ said-fits said sound here =
       commands = omega (arith, sound.counted, sound.within);
       round = sound.round here;
       each = length-sizes_upto said.stages said.dcs;
-      sizes = sizes_upto-fits said.stages said.dcs sound.stages;
+      sizes = sizes_upto-fits said.stages said.dcs (λ k d within. built_sizes-fit (get_or said.stages k d).sizes (sound.given k d within).sizes);
       steps = omega (arith, ap (λ (steps : List Step). length steps) sound.steps);
     }
-
-script_from-fits : (said : Progress) (number : ℕ) (left : List (List ℕ)) (script : Script) → IsSound said → script_from said number left ≡ Ok script → FitsScript script
-script_from-fits said number [] script sound same =
-    let ended = pass_ok (is_ended said.section) _ _ script same in
-    let is : script_said said ≡ script = cc (ended.1) in
-    subst FitsScript is (said-fits said sound (omega (arith, rank-ended said.section ended.0)))
-script_from-fits said number (line ∷ more) script sound same =
-    let step = bind_ok (told number (line_after said line)) (λ after. script_from after (number + 1) more) script same in
-    script_from-fits step.0 (number + 1) more script (line-sound said step.0 line sound (told_ok number (line_after said line) step.0 step.1.0)) step.1.1
-
--- what lines spell keeps the ranges
-pub script_of-fits : (lines : List (List ℕ)) (script : Script) → script_of lines ≡ Ok script → FitsScript script
-script_of-fits lines script same = script_from-fits start 1 lines script start-sound same
-
-pub all-fit : (lines : List (List ℕ)) (result : Result Script ScriptFault) → IfOk result (λ script. script_of lines ≡ Ok script) → IfOk result FitsScript
-all-fit lines (Ok script) same = script_of-fits lines script same
-all-fit lines (Err fault) same = tt

@@ -1,5 +1,5 @@
 -- What each line of a script says, and which script lines spell.
-use Rattle.std.specs.Prelude.{ℕ, zero, suc, ◌+◌, ◌==◌, ◌||◌, Bool, true, not, nat_le, nat_lt, List, [], ◌∷◌, ◌++◌, length, if◌then◌else◌, Option, Some, None, Result, Ok, Err}
+use Rattle.std.specs.Prelude.{ℕ, zero, suc, ◌+◌, ◌==◌, ◌||◌, Bool, true, not, min, nat_le, nat_lt, List, [], ◌∷◌, ◌++◌, length, if◌then◌else◌, Option, Some, None, Result, Ok, Err}
 use Rattle.std.specs.List.{list_all, list_any, find}
 use Rattle.abstract_log.specs.declared.command.Command.{Command as CommandOf}
 use Rattle.abstract_log.specs.declared.command.Command.TheVariants as command
@@ -160,10 +160,14 @@ abbrev pub told : {A : Type 0} → ℕ → Result A Cause → Result A ScriptFau
 told number (Ok value) = Ok value
 told number (Err cause) = Err (Bad number cause)
 
+-- the number of the next line; a count of 32 bits stands still at its end
+abbrev pub next_number : ℕ → ℕ
+next_number number = min (number + 1) 4294967295
+
 -- the script that the lines from a number on spell after what was said before, or the first bad line with its first cause
 abbrev pub script_from : Progress → ℕ → List (List ℕ) → Result Script ScriptFault
 script_from before number [] = if is_ended before.section then Ok (script_said before) else Err (Bad number TooShort)
-script_from before number (line ∷ more) = told number (line_after before line) >>= λ after. script_from after (number + 1) more
+script_from before number (line ∷ more) = told number (line_after before line) >>= λ after. script_from after (next_number number) more
 
 -- the script that lines spell, or the first bad line with its first cause
 abbrev pub script_of : List (List ℕ) → Result Script ScriptFault

@@ -1,14 +1,16 @@
 -- Which lines spell a script, told by writing the script: comments and empty lines apart, they are its lines.
-use Rattle.std.specs.Prelude.{◌≡◌, ℕ, ◌+◌, List, [], ◌∷◌, ◌++◌, map, codes, if◌then◌else◌}
-use Rattle.std.specs.List.{flat_map}
+use Rattle.std.specs.Prelude.{◌≡◌, ℕ, ◌+◌, ◌<◌, false, true, List, [], ◌∷◌, ◌++◌, map, codes, if◌then◌else◌, All}
+use Rattle.std.specs.List.{flat_map, list_all}
 use Rattle.std.specs.Fmt.{decimal}
 use Rattle.abstract_log.specs.declared.command.Command.{Command}
 use Rattle.abstract_log.specs.declared.command.Command.TheVariants.{Append, Put, Get, Tx, Read, Last}
 use Rattle.abstract_log.specs.declared.command.SessionPlan.{SessionPlan}
 use Rattle.abstract_log.specs.declared.script.Script.{Script}
+use Rattle.abstract_log.specs.declared.script.Sizes.{Sizes}
 use Rattle.script_text.specs.declared.progress.Stages.{Stages}
-use Rattle.script_text.specs.Words.{words}
-use Rattle.script_text.specs.Meaning.{is_passed_over, sizes_upto}
+use Rattle.script_text.specs.Words.{words, is_line_byte}
+use Rattle.script_text.specs.Fits.{IsSize, FitsScript}
+use Rattle.script_text.specs.Meaning.{is_passed_over, is_given, sizes_upto}
 
 -- the letter of a datacentre
 abbrev pub letter : ℕ → List ℕ
@@ -63,3 +65,45 @@ pub record Spells (script : Script) (lines : List (List ℕ)) : Type 0 where
   pub sizes : script.sizes ≡ sizes_upto stages script.workload.dcs
   pub steps : script.steps ≡ []
   pub written : said_words lines ≡ before_steps script.workload.dcs script.round stages script.workload.sessions ++ steps_words ∷ end_words ∷ []
+
+-- What is read yet.
+
+-- one member in each stage, but for the maintainers
+pub record IsBuiltSizes (sizes : Sizes) : Type 0 where
+  pub batchers : sizes.batchers ≡ 1
+  pub filters : sizes.filters ≡ 1
+  pub queues : sizes.queues ≡ 1
+  pub maintainers : IsSize sizes.maintainers
+  pub indexers : sizes.indexers ≡ 1
+  pub senders : sizes.senders ≡ 1
+  pub receivers : sizes.receivers ≡ 1
+
+-- appends and reads
+abbrev pub IsBuiltCommand : Command → Type 0
+IsBuiltCommand (Append tags body) = Unit {0}
+IsBuiltCommand (Put key body) = ⊥
+IsBuiltCommand (Get key) = ⊥
+IsBuiltCommand (Tx keys) = ⊥
+IsBuiltCommand (Read lid) = Unit {0}
+IsBuiltCommand (Last tag n) = ⊥
+
+-- the sizes of each datacentre are given at most once
+abbrev pub AreGivenOnce : List Stages → Type 0
+AreGivenOnce [] = Unit {0}
+AreGivenOnce (given ∷ more) = (is_given more given.dc ≡ false) × AreGivenOnce more
+
+-- the sizes of a datacentre that there is
+pub record IsBuiltStages (dcs : ℕ) (given : Stages) : Type 0 where
+  pub dc : given.dc < dcs
+  pub sizes : IsBuiltSizes given.sizes
+
+-- The lines spell the script as it has to be written: each byte is one of a line, the sizes of a datacentre
+-- are given at most once, all ranges are kept, and there are only lines that are read yet.
+pub record IsWritten (script : Script) (lines : List (List ℕ)) : Type 0 where
+  pub spells : Spells script lines
+  pub bytes : All (λ line. list_all is_line_byte line ≡ true) lines
+  pub stages : All (IsBuiltStages script.workload.dcs) spells.stages
+  pub once : AreGivenOnce spells.stages
+  pub fits : FitsScript script
+  pub commands : All (λ plan. All IsBuiltCommand plan.commands) script.workload.sessions
+  pub one : script.workload.dcs ≡ 1

@@ -1,8 +1,9 @@
-ghost use Rattle.std.specs.Prelude.{◌≡◌, ◌+◌, ◌<◌, ◌^◌, ℕ, length, IfOk, IsErrOf, Ok, Err};
+ghost use Rattle.std.specs.Prelude.{◌≡◌, ℕ, All, IfOk, IsErrOf, MatchResult, Ok, Err};
 ghost use Rattle.script_text.specs.Lines.{lines};
 ghost use Rattle.script_text.specs.Fits.{FitsScript};
 ghost use Rattle.script_text.specs.Meaning.{script_of};
-ghost use Rattle.script_text.specs.Spelled.{Spells};
+ghost use Rattle.script_text.specs.Spelled.{Spells, IsBuiltCommand, IsWritten};
+ghost use Rattle.abstract_log.specs.declared.script.Script.{Script};
 ghost use Rattle.script_text.specs.declared.fault.Cause.{Cause};
 
 use crate::Lines;
@@ -11,24 +12,29 @@ use crate::progress::Progress;
 use abstract_log::Script;
 use std::alloc::Global;
 
-/// The script that the bytes spell, or the first bad line with its first cause. Lines count from 1;
-/// where the input ends before `end`, the bad line is the one after the last.
+/// The script that the bytes spell, or the first bad line with its first cause. Lines count from 1,
+/// and the count stands still at 2^32 - 1; where the input ends before `end`, the bad line is the
+/// one after the last.
 pub fn read_script(alloc: Global, bytes: &[u8]) -> Result<Script, ScriptFault>
-    // The number of each line, and of the line after the last, is one.
-    requires { length bytes.now + 2 < 2 ^ 32 }
     ensures ok { IfOk result (λ script. script_of (lines bytes.now) ≡ Ok script) }
     ensures bad { (line : ℕ) (cause : Cause) → IsErrOf result (ScriptFault.Bad line cause) → script_of (lines bytes.now) ≡ Err (ScriptFault.Bad line cause) }
 
     // What is read keeps the ranges of scripts, and the lines are those that write it.
     ensures fits { IfOk result FitsScript }
     ensures spelled { IfOk result (λ script. Spells script (lines bytes.now)) }
+
+    // A script is read exactly from the lines that write it as it has to be written.
+    ensures written { IfOk result (λ script. IsWritten script (lines bytes.now)) }
+    ensures only { (script : Script) → IsWritten script (lines bytes.now) → MatchResult result (λ found. found ≡ script) (λ fault. fault ≡ ScriptFault.NoMemory) }
+
+    // As yet it has one datacentre, appends and reads.
+    ensures built { IfOk result (λ script. (script.workload.dcs ≡ 1) × All (λ plan. All IsBuiltCommand plan.commands) script.workload.sessions) }
 {
     read_lines(alloc, bytes)
 }
 
 // The script, line by line.
 fn read_lines(alloc: Global, bytes: &[u8]) -> Result<Script, ScriptFault>
-    requires { length bytes.now + 2 < 2 ^ 32 }
     ensures ok { IfOk result (λ script. script_of (lines bytes.now) ≡ Ok script) }
     ensures bad { (line : ℕ) (cause : Cause) → IsErrOf result (ScriptFault.Bad line cause) → script_of (lines bytes.now) ≡ Err (ScriptFault.Bad line cause) }
 {
@@ -41,7 +47,7 @@ fn read_lines(alloc: Global, bytes: &[u8]) -> Result<Script, ScriptFault>
             Err(LineFault::Bad(cause)) => return Err(ScriptFault::Bad { line, cause }),
             Err(LineFault::NoMemory) => return Err(ScriptFault::NoMemory),
         }
-        line += 1;
+        line = line.saturating_add(1);
     }
     if !progress.section.is_ended() {
         return Err(ScriptFault::Bad {

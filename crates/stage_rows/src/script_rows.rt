@@ -12,7 +12,7 @@ struct Refused {
     cause: Cause,
 }
 
-const REFUSED: [Refused; 18] = [
+const REFUSED: [Refused; 23] = [
     Refused {
         script: b"",
         line: 1,
@@ -103,10 +103,34 @@ const REFUSED: [Refused; 18] = [
         line: 5,
         cause: Cause::GivenTwice,
     },
+    Refused {
+        script: b"chariots 1\ndatacentres 1\nround 1\nstages A 1 1 1 1 1 1 1\nstages A 1 1 1 01 1 1 1\n",
+        line: 5,
+        cause: Cause::BadNumber,
+    },
+    Refused {
+        script: b"chariots 1\ndatacentres 1\nround 1\nsession A\nappend =x a/b\n",
+        line: 5,
+        cause: Cause::BadName,
+    },
+    Refused {
+        script: b"chariots 1\nround 1\nfly\n",
+        line: 2,
+        cause: Cause::OutOfPlace,
+    },
+    Refused {
+        script: b"chariots 1\ndatacentres 1\nround 1\nsteps\nend\nend \n",
+        line: 6,
+        cause: Cause::BadSpacing,
+    },
+    Refused {
+        script: b"# a\tcomment\nchariots 1\n",
+        line: 1,
+        cause: Cause::BadByte,
+    },
 ];
 
 fn refuses(rt: &impl Abort, alloc: Global, row: &Refused) {
-    assert!(rt; row.script.len() < 4096);
     let fault = read_script(alloc, row.script).err();
     assert_eq!(rt;
         fault,
@@ -127,14 +151,9 @@ fn bad_scripts_are_refused(rt: HostRuntime) {
 const THREE_SESSIONS: &[u8] =
     b"chariots 1\ndatacentres 1\nround 2\nstages A 1 1 1 2 1 1 1\nsession A\nappend =a\nsession A\nappend =b\nread 3\nsession A\nappend =c\nsteps\nend";
 
-fn read(rt: &impl Abort, alloc: Global, script: &[u8]) -> Result<Script, Fail> {
-    assert!(rt; script.len() < 4096);
-    Ok(read_script(alloc, script)?)
-}
-
 #[test]
 fn sessions_stages_and_reads_are_read(rt: HostRuntime) -> Result<(), Fail> {
-    let script = read(&rt, rt.alloc(), THREE_SESSIONS)?;
+    let script = read_script(rt.alloc(), THREE_SESSIONS)?;
     assert_eq!(rt; script.workload.dcs, 1);
     assert_eq!(rt; script.round, 2);
     assert_eq!(rt; script.steps.len(), 0);
@@ -166,7 +185,7 @@ fn appends(alloc: Global, commands: &Seq<Command>) -> Result<Vec<(usize, usize)>
 
 #[test]
 fn an_empty_body_and_eight_tags_are_read(rt: HostRuntime) -> Result<(), Fail> {
-    let script = read(&rt, rt.alloc(), EIGHT_TAGS)?;
+    let script = read_script(rt.alloc(), EIGHT_TAGS)?;
     for plan in &script.workload.sessions {
         let sizes = appends(rt.alloc(), &plan.commands)?;
         assert_eq!(rt; sizes.as_slice(), [(0, 8)].as_slice());
@@ -182,13 +201,51 @@ fn a_body_of_1025_bytes_is_bad(rt: HostRuntime) -> Result<(), Fail> {
         b"chariots 1\ndatacentres 1\nround 1\nsession A\nappend =",
     )?;
     script.extend_from_slice(&[b'x'; 1025])?;
-    assert!(rt; script.len() < 4096);
     let fault = read_script(alloc, &script).err();
     assert_eq!(rt;
         fault,
         Some(ScriptFault::Bad {
             line: 5,
             cause: Cause::BadBody
+        })
+    );
+    Ok(())
+}
+
+// The lines of 64 sessions, and then some text.
+fn after_64_sessions(alloc: Global, text: &[u8]) -> Result<Vec<u8>, Fail> {
+    let mut script = Vec::from_slice(alloc, b"chariots 1\ndatacentres 1\nround 1\n")?;
+    for _ in 0..64 {
+        script.extend_from_slice(b"session A\n")?;
+    }
+    script.extend_from_slice(text)?;
+    Ok(script)
+}
+
+#[test]
+fn sixty_four_sessions_are_read(rt: HostRuntime) -> Result<(), Fail> {
+    let text = after_64_sessions(rt.alloc(), b"steps\nend\n")?;
+    let script = read_script(rt.alloc(), &text)?;
+    assert_eq!(rt; script.workload.sessions.len(), 64);
+    Ok(())
+}
+
+#[test]
+fn the_65th_session_is_refused(rt: HostRuntime) -> Result<(), Fail> {
+    let one_more = after_64_sessions(rt.alloc(), b"session A\n")?;
+    assert_eq!(rt;
+        read_script(rt.alloc(), &one_more).err(),
+        Some(ScriptFault::Bad {
+            line: 68,
+            cause: Cause::TooMany
+        })
+    );
+    let elsewhere = after_64_sessions(rt.alloc(), b"session B\n")?;
+    assert_eq!(rt;
+        read_script(rt.alloc(), &elsewhere).err(),
+        Some(ScriptFault::Bad {
+            line: 68,
+            cause: Cause::BadDatacentre
         })
     );
     Ok(())

@@ -1,6 +1,6 @@
 use Rattle.script_text.specs.Lines.{lines}
-use Rattle.script_text.proofs.Laid.{all-spell}
-use Rattle.script_text.proofs.Sound.{all-fit}
+use Rattle.script_text.proofs.Accepted.{all-only}
+use Rattle.script_text.proofs.Laid.{all-written, all-spell, all-fit, all-built}
 use Rattle.script_text.proofs.script.read_script.Goals as goal
 
 pub returns-clause-fits : goal.returns-clause-fits
@@ -8,3 +8,12 @@ returns-clause-fits c = all-fit (lines c.args.bytes.now) c.read_lines.result c.r
 
 pub returns-clause-spelled : goal.returns-clause-spelled
 returns-clause-spelled c = all-spell (lines c.args.bytes.now) c.read_lines.result c.read_lines.ensures.ok
+
+pub returns-clause-built : goal.returns-clause-built
+returns-clause-built c = all-built (lines c.args.bytes.now) c.read_lines.result c.read_lines.ensures.ok
+
+pub returns-clause-only : goal.returns-clause-only
+returns-clause-only c = all-only (lines c.args.bytes.now) c.read_lines.result c.read_lines.ensures.ok c.read_lines.ensures.bad
+
+pub returns-clause-written : goal.returns-clause-written
+returns-clause-written c = all-written (lines c.args.bytes.now) c.read_lines.result c.read_lines.ensures.ok
