@@ -1,6 +1,6 @@
 -- What is written is read: lines that spell a script are accepted, with just that script.
-use Rattle.std.proofs.Common.{◌≡◌, ◌<◌, ◌≤◌, ◌+◌, ◌-◌, ◌^◌, ℕ, List, [], ◌∷◌, ◌++◌, length, length-append, refl, ap, ap₂, sym, subst, ◌∙◌, arith, Bool, true, false, cond, not, ◌&&◌, ◌||◌, nat_eq, map, append_assoc, get_or, All}
-use Rattle.std.specs.Prelude.{nat_le, nat_lt, Ok, Err, Result, Option, Some, None, is_none, slice_index, codes, IfOk, IsErrOf, MatchResult}
+use Rattle.std.proofs.Common.{◌≡◌, ◌<◌, ◌≤◌, ◌+◌, ◌-◌, ℕ, List, [], ◌∷◌, ◌++◌, length, length-append, refl, ap, ap₂, sym, subst, ◌∙◌, arith, Bool, true, false, cond, not, ◌&&◌, ◌||◌, nat_eq, map, append_assoc, All}
+use Rattle.std.specs.Prelude.{nat_le, nat_lt, Ok, Err, Result, Option, Some, is_none, slice_index, codes, IfOk, IsErrOf, MatchResult}
 use Rattle.std.specs.List.{list_all, list_any, flat_map}
 use Rattle.std.specs.Fmt.{decimal}
 use Rattle.std.proofs.lemmas.Bool.Decides.{nat_tests}
@@ -19,18 +19,18 @@ use Rattle.script_text.specs.declared.fault.Cause.TheVariants.{BadByte, BadSpaci
 use Rattle.script_text.specs.declared.fault.ScriptFault.{ScriptFault}
 use Rattle.script_text.specs.declared.fault.ScriptFault.TheVariants as fault
 use Rattle.script_text.specs.declared.keyword.Keyword.{Keyword}
-use Rattle.script_text.specs.declared.keyword.Keyword.TheVariants.{Chariots, Datacentres, Round, Stages, Session, Command as CommandLine, Steps, Turn, End}
+use Rattle.script_text.specs.declared.keyword.Keyword.TheVariants.{Chariots, Datacentres, Round, Stages, Session, Command as CommandLine, Steps, End}
 use Rattle.script_text.specs.declared.keyword.CommandWord.TheVariants.{Append, Read}
 use Rattle.script_text.specs.declared.section.Section.{Section}
 use Rattle.script_text.specs.declared.section.Section.TheVariants as section
 use Rattle.script_text.specs.declared.progress.Progress.{Progress}
 use Rattle.script_text.specs.declared.progress.Stages.{Stages as StagesOf}
 use Rattle.script_text.specs.Words.{is_digit, is_number, number_of, is_datacentre, is_name, is_body, words, is_line_byte, is_empty_word}
-use Rattle.script_text.specs.Reading.{◌>>=◌, number_in, number_at, datacentre_at, body_in, body_at, names_in}
+use Rattle.script_text.specs.Reading.{◌>>=◌, number_in, number_at, datacentre_at, body_at, names_in}
 use Rattle.script_text.specs.Keywords.{text_of, keyword_of, stands, is_built, least_words, most_words, is_stages, is_sessions, is_ended}
-use Rattle.script_text.specs.Meaning.{start, chariots_line, datacentres_line, round_line, sizes_at, stages_line, session_line, with_command, append_line, read_line, meaning, keyword_after, words_after, is_passed_over, line_after, is_given, sizes_upto, script_said, told, next_number, script_from, script_of}
+use Rattle.script_text.specs.Meaning.{start, chariots_line, datacentres_line, round_line, sizes_at, stages_line, session_line, with_command, append_line, read_line, meaning, keyword_after, words_after, is_passed_over, line_after, is_given, script_said, told, next_number, script_from, script_of}
 use Rattle.script_text.specs.Fits.{FitsCommand, FitsPlan, commands_of}
-use Rattle.script_text.specs.Spelled.{letter, command_words, plan_lines, stages_words, first_words, datacentres_words, round_words, before_steps, steps_words, end_words, said_words, Spells, IsBuiltSizes, IsBuiltCommand, AreGivenOnce, IsBuiltStages, IsWritten}
+use Rattle.script_text.specs.Spelled.{letter, command_words, plan_lines, stages_words, first_words, datacentres_words, round_words, before_steps, steps_words, end_words, said_words, IsBuiltSizes, IsBuiltCommand, AreGivenOnce, IsBuiltStages, IsWritten}
 use Rattle.script_text.proofs.MeaningLemmas.{with_command-last}
 use Rattle.script_text.proofs.Sound.{or_false, neither_true, eq-sym, is_given-push, IsBuiltPlan}
 use Rattle.script_text.proofs.Laid.{own, IsLine}
