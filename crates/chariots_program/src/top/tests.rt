@@ -6,7 +6,8 @@ use std::test::Fail;
 
 const NO_SESSION: &[u8] = b"chariots 1\ndatacentres 1\nround 1\nsteps\nend";
 
-const ONE_APPEND: &[u8] = b"chariots 1\ndatacentres 1\nround 1\nsession A\nappend =hi\nsteps\nend\n";
+const ONE_APPEND: &[u8] =
+    b"chariots 1\ndatacentres 1\nround 1\nsession A\nappend =hi\nsteps\nend\n";
 
 const ONE_GET: &[u8] = b"chariots 1\ndatacentres 1\nround 1\nsession A\nget x\nsteps\nend\n";
 
