@@ -10,6 +10,10 @@ const ONE_APPEND: &[u8] = b"chariots 1\ndatacentres 1\nround 1\nsession A\nappen
 
 const ONE_GET: &[u8] = b"chariots 1\ndatacentres 1\nround 1\nsession A\nget x\nsteps\nend\n";
 
+const TWO_MAINTAINERS: &[u8] = b"chariots 1\ndatacentres 1\nround 2\nstages A 1 1 1 2 1 1 1\nsession A\nappend =a\nsession A\nappend =b\nread 3\nsession A\nappend =c\nsteps\nend\n";
+
+const READ_BEYOND: &[u8] = b"chariots 1\ndatacentres 1\nround 2\nstages A 1 1 1 2 1 1 1\nsession A\nappend =a\nsession A\nappend =b\nread 5\nsession A\nappend =c\nsteps\nend\n";
+
 // A script, the words and which calls fail, and what the program then ends with and writes.
 struct Case {
     word: &'static str,
@@ -20,7 +24,7 @@ struct Case {
     written: &'static [u8],
 }
 
-const CASES: [Case; 7] = [
+const CASES: [Case; 10] = [
     Case {
         word: "replay",
         script: NO_SESSION,
@@ -43,7 +47,31 @@ const CASES: [Case; 7] = [
         read_fails: 0,
         write_fails: 0,
         status: 3,
-        written: b"refused: not built\n",
+        written: b"refused: line 5: not built\n",
+    },
+    Case {
+        word: "replay",
+        script: b"",
+        read_fails: 0,
+        write_fails: 0,
+        status: 3,
+        written: b"refused: line 1: too short\n",
+    },
+    Case {
+        word: "replay",
+        script: TWO_MAINTAINERS,
+        read_fails: 0,
+        write_fails: 0,
+        status: 0,
+        written: b"log A 3\n1 A:1 append 0 1 0 =a\n2 A:2 append 1 1 1 =b\n3 A:3 append 2 1 2 =c\nreplies\n0 1 written 1 A:1\n1 1 written 2 A:2\n1 2 at 3 record 3 A:3 append =c\n2 1 written 3 A:3\nend\n",
+    },
+    Case {
+        word: "replay",
+        script: READ_BEYOND,
+        read_fails: 0,
+        write_fails: 0,
+        status: 0,
+        written: b"log A 3\n1 A:1 append 0 1 0 =a\n2 A:2 append 1 1 1 =b\n3 A:3 append 2 1 2 =c\nreplies\n0 1 written 1 A:1\n1 1 written 2 A:2\n1 2 at 3 beyond\n2 1 written 3 A:3\nend\n",
     },
     Case {
         word: "replay",
