@@ -1,0 +1,5 @@
+pub mod Leading
+pub mod Middle
+pub mod Own
+pub mod Standings
+pub mod OneSession
