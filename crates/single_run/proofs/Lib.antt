@@ -3,3 +3,7 @@ pub mod Middle
 pub mod Own
 pub mod Standings
 pub mod OneSession
+pub mod Sessions
+pub mod Beginning
+pub mod Appending
+pub mod PassLemmas
