@@ -1,0 +1,9 @@
+pub mod Leading
+pub mod Middle
+pub mod Own
+pub mod Standings
+pub mod OneSession
+pub mod Sessions
+pub mod Beginning
+pub mod Appending
+pub mod PassLemmas
