@@ -6,20 +6,25 @@ use std::test::Fail;
 
 const NO_SESSION: &[u8] = b"chariots 1\ndatacentres 1\nround 1\nsteps\nend";
 
-const ONE_APPEND: &[u8] = b"chariots 1\ndatacentres 1\nround 1\nsession A\nappend =hi\nsteps\nend\n";
+const ONE_APPEND: &[u8] =
+    b"chariots 1\ndatacentres 1\nround 1\nsession A\nappend =hi\nsteps\nend\n";
 
 const ONE_GET: &[u8] = b"chariots 1\ndatacentres 1\nround 1\nsession A\nget x\nsteps\nend\n";
 
-const TWO_MAINTAINERS: &[u8] = b"chariots 1\ndatacentres 1\nround 2\nstages A 1 1 1 2 1 1 1\nsession A\nappend =a\nsession A\nappend =b\nread 3\nsession A\nappend =c\nsteps\nend\n";
+const TWO_MAINTAINERS: &[u8] =
+    b"chariots 1\ndatacentres 1\nround 2\nstages A 1 1 1 2 1 1 1\nsession A\nappend =a\nsession A\nappend =b\nread 3\nsession A\nappend =c\nsteps\nend\n";
 
-const READ_BEYOND: &[u8] = b"chariots 1\ndatacentres 1\nround 2\nstages A 1 1 1 2 1 1 1\nsession A\nappend =a\nsession A\nappend =b\nread 5\nsession A\nappend =c\nsteps\nend\n";
+const READ_BEYOND: &[u8] =
+    b"chariots 1\ndatacentres 1\nround 2\nstages A 1 1 1 2 1 1 1\nsession A\nappend =a\nsession A\nappend =b\nread 5\nsession A\nappend =c\nsteps\nend\n";
 
 // A record with tags, read twice: before its session's own write is in the log, and after it.
-const TAGGED: &[u8] = b"# two sessions\nchariots 1\ndatacentres 1\nround 1\n\nsession A\nappend =x t u\nread 1\nsession A\nread 1\nread 1\nsteps\nend";
+const TAGGED: &[u8] =
+    b"# two sessions\nchariots 1\ndatacentres 1\nround 1\n\nsession A\nappend =x t u\nread 1\nsession A\nread 1\nread 1\nsteps\nend";
 
 const SPACED: &[u8] = b"chariots 1\ndatacentres 1\nround  1\nsteps\nend\n";
 
-const TWICE: &[u8] = b"chariots 1\ndatacentres 1\nround 1\nstages A 1 1 1 2 1 1 1\nstages A 1 1 1 2 1 1 1\nsteps\nend\n";
+const TWICE: &[u8] =
+    b"chariots 1\ndatacentres 1\nround 1\nstages A 1 1 1 2 1 1 1\nstages A 1 1 1 2 1 1 1\nsteps\nend\n";
 
 const AFTER_END: &[u8] = b"chariots 1\ndatacentres 1\nround 1\nsteps\nend\n# a comment\nend\n";
 
