@@ -1,5 +1,5 @@
 -- Sessions: how far each is, and what its turn brings.
-use Rattle.std.specs.Prelude.{◌≡◌, ℕ, ◌+◌, ◌≤◌, max, Bool, true, false, List, [], ◌∷◌, ◌++◌, length, Option, Some, None, slice_index, slice_index_or, slice_set, option_to_list}
+use Rattle.std.specs.Prelude.{◌≡◌, ℕ, ◌+◌, ◌≤◌, max, true, false, List, [], ◌∷◌, ◌++◌, length, Option, Some, None, slice_index, slice_index_or, slice_set, option_to_list}
 use Rattle.std.specs.Option.{option_map, option_and_then}
 use Rattle.causal_deps.specs.declared.record.Record.{Record}
 use Rattle.causal_deps.specs.declared.record.Item.{Item}

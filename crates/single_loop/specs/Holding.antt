@@ -1,9 +1,9 @@
 -- The stages of one datacentre, and the log that they hold.
-use Rattle.std.specs.Prelude.{◌≡◌, ℕ, ◌<◌, ◌≤◌, nat_le, List, [], ◌∷◌, ◌++◌, length, map, Some, slice_index_or, All}
+use Rattle.std.specs.Prelude.{◌≡◌, ℕ, ◌≤◌, nat_le, List, [], ◌∷◌, ◌++◌, length, map, Some, All}
 use Rattle.std.specs.Vec.{vec_len}
 use Rattle.causal_deps.specs.declared.record.Record.{Record}
 use Rattle.causal_deps.specs.declared.record.Item.{Item}
-use Rattle.flstore_rounds.specs.Epochs.{EpochList, IsEpochList, owner}
+use Rattle.flstore_rounds.specs.Epochs.{EpochList}
 use Rattle.flstore_rounds.specs.Heads.{Pair, IsBelowMark, IsTrueOf}
 use Rattle.maintainer.specs.declared.slot.Slot.{Slot}
 use Rattle.maintainer.specs.Maintainers.{MaintainerState}
@@ -51,7 +51,6 @@ queue_at e n items = record { number = 0; items = items; outboxes = no_outboxes;
 -- the stages hold this log
 pub record HoldsLog (log : List Record) (z : Stages) : Type 0 where
   pub members : AreMembers z
-  pub epochs : IsEpochList z.epochs
   pub queue : z.queue ≡ queue_at z.epochs (length log) z.queue.items
   pub maintainers : EachAt (IsKeeper z.epochs log) z.maintainers.items
   pub vectors : All (IsTold z.epochs (length log)) z.vectors.items
@@ -62,6 +61,6 @@ WithItem old item new = new ≡ record old { queue = record old.queue { items = 
 
 -- all that waited is stamped and placed
 pub record IsServed (log : List Record) (old : Stages) (stamps : List Stamp) (new : Stages) : Type 0 where
-  pub log : HoldsLog (log ++ stamped (length log) old.queue.items) new
+  pub held : HoldsLog (log ++ stamped (length log) old.queue.items) new
   pub items : new.queue.items ≡ []
-  pub stamps : stamps ≡ map stamp_of (entries_from (length log) (stamped (length log) old.queue.items))
+  pub told : stamps ≡ map stamp_of (entries_from (length log) (stamped (length log) old.queue.items))

@@ -1,5 +1,5 @@
 -- What a pass needs and leaves.
-use Rattle.std.specs.Prelude.{◌≡◌, ℕ, ◌+◌, ◌<◌, ◌≤◌, ◌^◌, min, sum_by, Bool, true, List, [], ◌++◌, length, Option, Some, None, slice_index, slice_index_or, All}
+use Rattle.std.specs.Prelude.{◌≡◌, ℕ, ◌+◌, ◌<◌, ◌≤◌, ◌^◌, min, sum_by, true, List, [], ◌++◌, length, Option, Some, None, slice_index, slice_index_or, All}
 use Rattle.causal_deps.specs.declared.record.Record.{Record}
 use Rattle.abstract_log.specs.declared.command.Command.{Command}
 use Rattle.abstract_log.specs.declared.command.Command.TheVariants.{Append as AppendCommand, Put as PutCommand, Get as GetCommand, Tx as TxCommand, Read as ReadCommand, Last as LastCommand}
@@ -42,7 +42,7 @@ plan_at plans s = slice_index_or plans s no_plan
 -- the stages and the sessions after k passes
 pub record AreAt (log : List Record) (k : ℕ) (plans : List SessionPlan) (z : Stages) (cs : List Client) : Type 0 where
   pub size : length cs ≡ length plans
-  pub log : HoldsLog log z
+  pub held : HoldsLog log z
   pub own : IsOwnLog log
   pub items : z.queue.items ≡ []
   pub clients : EachAt (λ s c. IsAt (length log) k (plan_at plans s) c) cs
@@ -74,7 +74,7 @@ HasBegun n k plan c (Some (LastCommand tag n')) = ⊥
 -- what the turns leave in which command k begins
 pub record HaveTurned (log : List Record) (k : ℕ) (plans : List SessionPlan) (z : Stages) (before : List Event) (z' : Stages) (cs : List Client) (now : List Event) : Type 0 where
   pub events : now ≡ before ++ begun log 0 k plans
-  pub log : HoldsLog log z'
+  pub held : HoldsLog log z'
   pub ready : AreReady (length log) z'.queue.items
   pub writes : stamped (length log) z'.queue.items ≡ writes (length log) 0 k plans
   pub few : length z'.queue.items ≤ length plans

@@ -34,9 +34,9 @@ impl Client {
     }
 
     /// Takes the place that a write got.
-    pub fn acknowledge(&mut self, stamp: Stamp)
-        requires { stamp.place.host < length self.old.past }
-        ensures { self.new ≡ acknowledged self.old stamp }
+    pub fn acknowledge(&mut self, stamp: &Stamp)
+        requires { stamp.now.place.host < length self.old.past }
+        ensures { self.new ≡ acknowledged self.old stamp.now }
     {
         self.answered = stamp.index;
         self.begun = false;

@@ -10,7 +10,10 @@ use head_gossip::{Note, Vector};
 use maintainer::Maintainer;
 
 /// Each maintainer's vector takes its mark, and every vector hears of it.
-pub fn gossip_all(maintainers: &[Maintainer<Record>], vectors: &mut [Vector]) -> Result<(), NoMemory>
+pub fn gossip_all(
+    maintainers: &[Maintainer<Record>],
+    vectors: &mut [Vector],
+) -> Result<(), NoMemory>
     requires { (e : EpochList) × AreFormed e maintainers.now vectors.old }
     ensures len { length vectors.new ≡ length vectors.old }
     ensures told { (e : EpochList) → AreFormed e maintainers.now vectors.old → OnOk result (AreTold e maintainers.now (length maintainers.now) vectors.new) }

@@ -1,6 +1,6 @@
 ghost use Rattle.std.specs.Prelude.{◌≡◌, ◌+◌, ◌<◌, ◌≤◌, ◌++◌, List, length, map, All, OnOk};
 ghost use Rattle.causal_deps.specs.declared.record.Record.{Record};
-ghost use Rattle.single_run.specs.Passes.{IsSingle, log_upto, pass as pass_events};
+ghost use Rattle.single_run.specs.Passes.{IsSingle, log_upto, most_commands, pass as pass_events};
 ghost use Rattle.single_loop.specs.Clients.{acknowledged_all, append_of, most_answered};
 ghost use Rattle.single_loop.specs.Passing.{AreAt, CanAcknowledge, CanTurn, HasPassed, IsSmall, HaveTurned};
 
@@ -21,13 +21,15 @@ pub fn pass(
     requires single { IsSingle workload.now }
     requires small { IsSmall workload.now }
     requires passed { HasPassed workload.now (most_answered clients.old) stages.old clients.old }
+    requires left { most_answered clients.old < most_commands workload.now.sessions }
     ensures len { length clients.new ≡ length clients.old }
     ensures passed { OnOk result (HasPassed workload.now (most_answered clients.old + 1) stages.new clients.new) }
     ensures events { OnOk result (events.new ≡ events.old ++ pass_events (log_upto workload.now (most_answered clients.old)) (most_answered clients.old + 1) workload.now.sessions) }
 {
     turns(&workload.sessions, stages, clients, events)?;
     let stamps = stages.serve()?;
-    acknowledge(stamps.as_slice(), clients, events)
+    acknowledge(stamps.as_slice(), clients, events)?;
+    Ok(())
 }
 
 // The turn of each session in order.
@@ -67,7 +69,7 @@ fn acknowledge(
             lid: stamp.place.lid,
             toid: stamp.place.toid,
         })?;
-        clients[stamp.session as usize].acknowledge(*stamp);
+        clients[stamp.session as usize].acknowledge(stamp);
     }
     Ok(())
 }

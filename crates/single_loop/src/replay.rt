@@ -37,7 +37,7 @@ pub fn run_single(
     let mut stages = Stages::new(alloc, round, maintainers)?;
     let mut clients = first_clients(alloc, workload.sessions.len())?;
     let mut events = Seq::new(alloc);
-    while !are_answered(&workload.sessions, &clients) {
+    'passes: while !are_answered(&workload.sessions, &clients) {
         pass(&workload, &mut stages, &mut clients, &mut events)?;
     }
     let log = stages.log()?;
@@ -49,10 +49,7 @@ pub fn run_single(
 fn first_clients(alloc: Global, count: usize) -> Result<Vec<Client>, NoMemory>
     ensures { IfOk result (λ clients. clients.items ≡ replicate count first_client) }
 {
-    let mut clients = Vec::new(alloc);
-    for _ in 0..count {
-        clients.push(Client::new())?;
-    }
+    let clients = vec![in alloc; Client::new(); count]?;
     Ok(clients)
 }
 

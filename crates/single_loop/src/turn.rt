@@ -30,27 +30,32 @@ pub fn turn(
     let Some(command) = plan.commands.get(client.answered as usize) else {
         return Ok(());
     };
-    let index = client.answered + 1;
-    let first = !client.begun;
-    if first {
-        events.push(Event::Submit { session, index })?;
-        client.begun = true;
+    if client.begun {
+        // A write waits for its place, and a read tries again.
+        if let Command::Read { lid } = command {
+            reply(stages, session, *lid, client, events)?;
+        }
+        return Ok(());
     }
+    let index = client.answered + 1;
+    events.push(Event::Submit { session, index })?;
+    client.begun = true;
     match command {
         Command::Append { tags, body } => {
-            if first {
-                stages.push(Draft {
-                    session,
-                    index,
-                    kind: Kind::Append,
-                    tags: tags.copy()?,
-                    body: body.copy()?,
-                    dep: client.past,
-                })?;
-            }
+            stages.push(Draft {
+                session,
+                index,
+                kind: Kind::Append,
+                tags: tags.copy()?,
+                body: body.copy()?,
+                dep: client.past,
+            })?;
             Ok(())
         }
-        Command::Read { lid } => reply(stages, session, *lid, client, events),
+        Command::Read { lid } => {
+            reply(stages, session, *lid, client, events)?;
+            Ok(())
+        }
         _ => unreachable!(),
     }
 }
