@@ -11,6 +11,29 @@ const ONE_APPEND: &[u8] =
 
 const ONE_GET: &[u8] = b"chariots 1\ndatacentres 1\nround 1\nsession A\nget x\nsteps\nend\n";
 
+const TWO_MAINTAINERS: &[u8] =
+    b"chariots 1\ndatacentres 1\nround 2\nstages A 1 1 1 2 1 1 1\nsession A\nappend =a\nsession A\nappend =b\nread 3\nsession A\nappend =c\nsteps\nend\n";
+
+const READ_BEYOND: &[u8] =
+    b"chariots 1\ndatacentres 1\nround 2\nstages A 1 1 1 2 1 1 1\nsession A\nappend =a\nsession A\nappend =b\nread 5\nsession A\nappend =c\nsteps\nend\n";
+
+// A record with tags, read twice: before its session's own write is in the log, and after it.
+const TAGGED: &[u8] =
+    b"# two sessions\nchariots 1\ndatacentres 1\nround 1\n\nsession A\nappend =x t u\nread 1\nsession A\nread 1\nread 1\nsteps\nend";
+
+const SPACED: &[u8] = b"chariots 1\ndatacentres 1\nround  1\nsteps\nend\n";
+
+const TWICE: &[u8] =
+    b"chariots 1\ndatacentres 1\nround 1\nstages A 1 1 1 2 1 1 1\nstages A 1 1 1 2 1 1 1\nsteps\nend\n";
+
+const AFTER_END: &[u8] = b"chariots 1\ndatacentres 1\nround 1\nsteps\nend\n# a comment\nend\n";
+
+const READ_0: &[u8] = b"chariots 1\ndatacentres 1\nround 1\nsession A\nread 0\nsteps\nend\n";
+
+const TWO_DATACENTRES: &[u8] = b"chariots 1\ndatacentres 2\nround 1\nsteps\nend\n";
+
+const UNKNOWN: &[u8] = b"chariots 1\ndatacentres 1\nround 1\nsession A\nappends =x\nsteps\nend\n";
+
 // A script, the words and which calls fail, and what the program then ends with and writes.
 struct Case {
     word: &'static str,
@@ -21,7 +44,7 @@ struct Case {
     written: &'static [u8],
 }
 
-const CASES: [Case; 7] = [
+const CASES: [Case; 17] = [
     Case {
         word: "replay",
         script: NO_SESSION,
@@ -44,7 +67,87 @@ const CASES: [Case; 7] = [
         read_fails: 0,
         write_fails: 0,
         status: 3,
-        written: b"refused: not built\n",
+        written: b"refused: line 5: not built\n",
+    },
+    Case {
+        word: "replay",
+        script: b"",
+        read_fails: 0,
+        write_fails: 0,
+        status: 3,
+        written: b"refused: line 1: too short\n",
+    },
+    Case {
+        word: "replay",
+        script: TWO_MAINTAINERS,
+        read_fails: 0,
+        write_fails: 0,
+        status: 0,
+        written: b"log A 3\n1 A:1 append 0 1 0 =a\n2 A:2 append 1 1 1 =b\n3 A:3 append 2 1 2 =c\nreplies\n0 1 written 1 A:1\n1 1 written 2 A:2\n1 2 at 3 record 3 A:3 append =c\n2 1 written 3 A:3\nend\n",
+    },
+    Case {
+        word: "replay",
+        script: READ_BEYOND,
+        read_fails: 0,
+        write_fails: 0,
+        status: 0,
+        written: b"log A 3\n1 A:1 append 0 1 0 =a\n2 A:2 append 1 1 1 =b\n3 A:3 append 2 1 2 =c\nreplies\n0 1 written 1 A:1\n1 1 written 2 A:2\n1 2 at 3 beyond\n2 1 written 3 A:3\nend\n",
+    },
+    Case {
+        word: "replay",
+        script: TAGGED,
+        read_fails: 0,
+        write_fails: 0,
+        status: 0,
+        written: b"log A 1\n1 A:1 append 0 1 0 =x t u\nreplies\n0 1 written 1 A:1\n0 2 at 1 record 1 A:1 append =x t u\n1 1 at 0 beyond\n1 2 at 1 record 1 A:1 append =x t u\nend\n",
+    },
+    Case {
+        word: "replay",
+        script: SPACED,
+        read_fails: 0,
+        write_fails: 0,
+        status: 3,
+        written: b"refused: line 3: bad spacing\n",
+    },
+    Case {
+        word: "replay",
+        script: TWICE,
+        read_fails: 0,
+        write_fails: 0,
+        status: 3,
+        written: b"refused: line 5: given twice\n",
+    },
+    Case {
+        word: "replay",
+        script: AFTER_END,
+        read_fails: 0,
+        write_fails: 0,
+        status: 3,
+        written: b"refused: line 7: after end\n",
+    },
+    Case {
+        word: "replay",
+        script: READ_0,
+        read_fails: 0,
+        write_fails: 0,
+        status: 3,
+        written: b"refused: line 5: out of range\n",
+    },
+    Case {
+        word: "replay",
+        script: TWO_DATACENTRES,
+        read_fails: 0,
+        write_fails: 0,
+        status: 3,
+        written: b"refused: line 2: out of range\n",
+    },
+    Case {
+        word: "replay",
+        script: UNKNOWN,
+        read_fails: 0,
+        write_fails: 0,
+        status: 3,
+        written: b"refused: line 5: unknown word\n",
     },
     Case {
         word: "replay",

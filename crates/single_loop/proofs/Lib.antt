@@ -1,0 +1,13 @@
+pub mod StampingLemmas
+pub mod SlotsLemmas
+pub mod PlacingLemmas
+pub mod TellingLemmas
+pub mod HoldingLemmas
+pub mod ClientLemmas
+pub mod PassLemmas
+pub mod ServeLemmas
+pub mod RunLemmas
+pub mod OpeningLemmas
+pub mod TurnLemmas
+pub mod AckLemmas
+pub mod PassingLemmas
