@@ -3,20 +3,12 @@
 #![tactic(auto)]
 
 #[cfg(test)]
-mod codec_rows;
-#[cfg(test)]
-mod filter_rows;
-#[cfg(test)]
 mod link_rows;
 #[cfg(test)]
 mod log_rows;
 #[cfg(test)]
 mod maintainer_rows;
 #[cfg(test)]
-mod queue_rows;
-#[cfg(test)]
 mod rounds_rows;
-#[cfg(test)]
-mod script_rows;
 #[cfg(test)]
 mod sender_rows;

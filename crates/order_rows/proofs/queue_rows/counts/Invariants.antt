@@ -1,5 +1,5 @@
 use Rattle.std.proofs.Common.{◌≡◌, length}
-use Rattle.stage_rows.proofs.queue_rows.counts.Given as goal
+use Rattle.order_rows.proofs.queue_rows.counts.Given as goal
 
 abbrev pub invariant-loop-number : goal.invariant-loop-number
 invariant-loop-number l = length l.counts ≡ 3
