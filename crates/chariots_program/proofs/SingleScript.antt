@@ -6,7 +6,7 @@ use Rattle.abstract_log.specs.declared.command.Command.{Command}
 use Rattle.abstract_log.specs.declared.command.Command.TheVariants.{Append, Put, Get, Tx, Read, Last}
 use Rattle.abstract_log.specs.declared.command.SessionPlan.{SessionPlan}
 use Rattle.abstract_log.specs.declared.script.Script.{Script}
-use Rattle.script_text.specs.Fits.{FitsCommand, FitsPlan, FitsScript, commands_of}
+use Rattle.abstract_log.specs.Fits.{FitsCommand, FitsPlan, FitsScript, commands_of}
 use Rattle.script_text.specs.Spelled.{IsBuiltCommand}
 use Rattle.single_run.specs.Passes.{IsAppendOrRead, IsSingle}
 use Rattle.single_loop.specs.Passing.{IsSmall}
@@ -50,8 +50,8 @@ pub script_single : (script : Script) → FitsScript script → (script.workload
     → IsSingle script.workload
 script_single script fits built = record {
   one = built.0;
-  homes = all_here script.workload.dcs script.workload.sessions built.0 fits.plans;
-  plain = plans_plain script.workload.dcs script.workload.sessions fits.plans built.1;
+  homes = all_here script.workload.dcs script.workload.sessions built.0 fits.limits.plans;
+  plain = plans_plain script.workload.dcs script.workload.sessions fits.limits.plans built.1;
 }
 
 commands_sum : (plans : List SessionPlan) → sum_by (λ (plan : SessionPlan). length plan.commands) plans ≡ commands_of plans
@@ -60,4 +60,4 @@ commands_sum (plan ∷ more) = omega (arith, sum_by-cons (λ (p : SessionPlan). 
 
 -- it is small
 pub script_small : (script : Script) → FitsScript script → IsSmall script.workload
-script_small script fits = record { sessions = fits.sessions; commands = omega (arith, commands_sum script.workload.sessions, fits.commands) }
+script_small script fits = record { sessions = fits.limits.sessions; commands = omega (arith, commands_sum script.workload.sessions, fits.limits.commands) }

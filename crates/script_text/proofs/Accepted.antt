@@ -29,7 +29,7 @@ use Rattle.script_text.specs.Words.{is_digit, is_number, number_of, is_datacentr
 use Rattle.script_text.specs.Reading.{◌>>=◌, number_in, number_at, datacentre_at, body_at, names_in}
 use Rattle.script_text.specs.Keywords.{text_of, keyword_of, stands, is_built, least_words, most_words, is_stages, is_sessions, is_ended}
 use Rattle.script_text.specs.Meaning.{start, chariots_line, datacentres_line, round_line, sizes_at, stages_line, session_line, with_command, append_line, read_line, meaning, keyword_after, words_after, is_passed_over, line_after, is_given, script_said, told, next_number, script_from, script_of}
-use Rattle.script_text.specs.Fits.{FitsCommand, FitsPlan, commands_of}
+use Rattle.abstract_log.specs.Fits.{FitsCommand, FitsPlan, commands_of}
 use Rattle.script_text.specs.Spelled.{letter, command_words, plan_lines, stages_words, first_words, datacentres_words, round_words, before_steps, steps_words, end_words, said_words, IsBuiltSizes, IsBuiltCommand, AreGivenOnce, IsBuiltStages, IsWritten}
 use Rattle.script_text.proofs.MeaningLemmas.{with_command-last}
 use Rattle.script_text.proofs.Sound.{or_false, neither_true, eq-sym, is_given-push, IsBuiltPlan}
@@ -529,7 +529,7 @@ what_is_written_is_read script lines written =
     let stages : List StagesOf = written.spells.stages in
     let end : Progress = said_at section.Ended dcs script.round stages plans (commands_of plans) in
     let lead = all_lead dcs script.round stages plans written.one written.fits.round.0 written.fits.round.1 written.stages written.once
-    written.fits.plans written.commands written.fits.sessions written.fits.commands in
+    written.fits.limits.plans written.commands written.fits.limits.sessions written.fits.limits.commands in
     let leads = subst (λ (ls : List (List (List ℕ))). Leads start ls end) (sym written.spells.written) lead in
     let same : script_said end ≡ script = ap₂ (λ (sizes : List Sizes) (steps : List Step). record script { sizes = sizes; steps = steps }) (sym written.spells.sizes) (sym written.spells.steps) in
     lines_read start 1 lines end written.bytes leads refl ∙ ap (λ (s : Script). Ok s) same

@@ -32,7 +32,7 @@ use Rattle.script_text.specs.Reading.{number_in, number_at, datacentre_at, body_
 use Rattle.script_text.specs.Keywords.{text_of, keywords, keyword_of, stands, is_built, least_words, most_words, is_start, is_datacentres, is_round, is_stages, is_sessions, is_steps, is_ended}
 use Rattle.script_text.specs.Meaning.{start, chariots_line, datacentres_line, round_line, sizes_at, stages_line, session_line, onto_last, with_command, append_line, read_line, command_meaning, meaning, keyword_after, words_after, is_passed_over, line_after, is_given, script_said, told, next_number, script_from, script_of}
 use Rattle.script_text.specs.Spelled.{letter, command_words, plan_lines, stages_words, first_words, datacentres_words, round_words, before_steps, steps_words, end_words, said_words, Spells, IsBuiltCommand, IsWritten}
-use Rattle.script_text.specs.Fits.{FitsScript}
+use Rattle.abstract_log.specs.Fits.{FitsScript}
 use Rattle.script_text.proofs.Sound.{IsSound, start-sound, line-sound, said-fits, rank-ended, okay, okay-same, bind_ok, guard_ok, pass_ok, and_both, not_false, or_false, told_ok}
 
 -- Words.

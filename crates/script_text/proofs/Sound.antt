@@ -24,7 +24,7 @@ use Rattle.script_text.specs.Words.{is_number, number_of, is_datacentre, is_name
 use Rattle.script_text.specs.Reading.{◌>>=◌, number_in, number_at, datacentre_at, body_in, body_at, names_in}
 use Rattle.script_text.specs.Keywords.{keyword_of, stands, is_built, least_words, most_words, is_start, is_datacentres, is_round, is_stages, is_sessions, is_steps, is_ended}
 use Rattle.script_text.specs.Meaning.{start, chariots_line, datacentres_line, round_line, sizes_at, stages_line, session_line, onto_last, with_command, append_line, read_line, command_meaning, meaning, keyword_after, words_after, is_passed_over, line_after, is_given, sizes_found, sizes_given, sizes_upto, script_said, told}
-use Rattle.script_text.specs.Fits.{IsSize, FitsSizes, FitsCommand, FitsPlan, commands_of, FitsScript}
+use Rattle.abstract_log.specs.Fits.{IsSize, FitsSizes, FitsCommand, FitsPlan, commands_of, FitsScript}
 use Rattle.script_text.specs.Spelled.{IsBuiltCommand, IsBuiltSizes, IsBuiltStages, AreGivenOnce}
 
 -- where a section stands
@@ -634,10 +634,12 @@ pub said-fits : (said : Progress) → IsSound said → 3 ≤ rank said.section �
 said-fits said sound here =
     let dcs = sound.dcs (omega arith) in
     record {
-      workload = record { some = dcs.0; few = dcs.1; homes = λ s within. (All-get_or (FitsPlan said.dcs) said.sessions s no_plan within sound.plans).home };
-      sessions = sound.few;
-      plans = sound.plans;
-      commands = omega (arith, sound.counted, sound.within);
+      limits = record {
+        workload = record { some = dcs.0; few = dcs.1; homes = λ s within. (All-get_or (FitsPlan said.dcs) said.sessions s no_plan within sound.plans).home };
+        sessions = sound.few;
+        plans = sound.plans;
+        commands = omega (arith, sound.counted, sound.within);
+      };
       round = sound.round here;
       each = length-sizes_upto said.stages said.dcs;
       sizes = sizes_upto-fits said.stages said.dcs (λ k d within. built_sizes-fit (get_or said.stages k d).sizes (sound.given k d within).sizes);

@@ -9,7 +9,7 @@ use Rattle.abstract_log.specs.declared.script.Script.{Script}
 use Rattle.abstract_log.specs.declared.script.Sizes.{Sizes}
 use Rattle.script_text.specs.declared.progress.Stages.{Stages}
 use Rattle.script_text.specs.Words.{words, is_line_byte}
-use Rattle.script_text.specs.Fits.{IsSize, FitsScript}
+use Rattle.abstract_log.specs.Fits.{IsSize, FitsScript}
 use Rattle.script_text.specs.Meaning.{is_passed_over, is_given, sizes_upto}
 
 -- the letter of a datacentre

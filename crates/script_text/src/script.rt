@@ -1,6 +1,6 @@
 ghost use Rattle.std.specs.Prelude.{◌≡◌, ℕ, All, IfOk, IsErrOf, MatchResult, Ok, Err};
 ghost use Rattle.script_text.specs.Lines.{lines};
-ghost use Rattle.script_text.specs.Fits.{FitsScript};
+ghost use Rattle.abstract_log.specs.Fits.{FitsScript};
 ghost use Rattle.script_text.specs.Meaning.{script_of};
 ghost use Rattle.script_text.specs.Spelled.{Spells, IsBuiltCommand, IsWritten};
 ghost use Rattle.abstract_log.specs.declared.script.Script.{Script};

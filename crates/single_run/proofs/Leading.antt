@@ -4,7 +4,7 @@ use Rattle.abstract_log.specs.declared.event.Event.{Event}
 use Rattle.abstract_log.specs.declared.world.World.{World}
 use Rattle.abstract_log.specs.Steps.{CanHappen, after}
 use Rattle.abstract_log.specs.Runs.{after_all, CanAllHappen}
-use Rattle.abstract_log.proofs.Runs.{after_all-append, CanAllHappen-append}
+use Rattle.log_laws.proofs.Runs.{after_all-append, CanAllHappen-append}
 
 -- each of the events may happen, and they leave v
 pub record Leads (w : World) (es : List Event) (v : World) : Type 0 where

@@ -1,23 +1,9 @@
 -- Definitions on their way into lower crates.
-use Rattle.std.specs.Prelude.{◌≡◌, ℕ, ◌≤◌, ◌×◌, ◌==◌, not, List, ◌∷◌, None, filter, count_by, sum_by}
+use Rattle.std.specs.Prelude.{ℕ, ◌==◌, not, List, ◌∷◌, None, filter, count_by, sum_by}
 use Rattle.causal_deps.specs.declared.record.Record.{Record}
-use Rattle.abstract_log.specs.declared.script.Sizes.{Sizes}
 use Rattle.maintainer.specs.Maintainers.{MaintainerState}
 use Rattle.token_queue.specs.declared.entry.Entry.{Entry}
 use Rattle.token_queue.specs.Queues.{QueueState}
-
--- a number of members of a stage
-abbrev pub IsSize : ℕ → Type 0
-IsSize n = (1 ≤ n) × (n ≤ 16)
-
-pub record FitsSizes (sizes : Sizes) : Type 0 where
-  pub batchers : IsSize sizes.batchers
-  pub filters : IsSize sizes.filters
-  pub queues : IsSize sizes.queues
-  pub maintainers : IsSize sizes.maintainers
-  pub indexers : IsSize sizes.indexers
-  pub senders : IsSize sizes.senders
-  pub receivers : IsSize sizes.receivers
 
 abbrev pub tokenless : QueueState → QueueState
 tokenless q = record q { token = None }

@@ -1,0 +1,5 @@
+pub mod Runs
+pub mod Growth
+pub mod LawsLemmas
+pub mod LawfulRuns
+pub mod PendingLemmas
