@@ -1,16 +1,14 @@
 -- What stands of a datacentre whose stages stand for a world, and its parts once a list is changed.
 use Rattle.std.proofs.Common.{◌≡◌, ℕ, ◌+◌, ◌<◌, ◌≤◌, List, [], length, set, refl, ap, sym, ◌∙◌, subst, inl, inr, arith, None}
 use Rattle.std.specs.List.{All}
-use Rattle.std.proofs.lemmas.List.{get_or-set_same, get_or-set_other, get_or_past, get_or_default, length-set, take_all}
+use Rattle.std.proofs.lemmas.List.{get_or-set_same, get_or-set_other, get_or_past, length-set}
 use Rattle.std.proofs.lemmas.List.Elements.{All-nil, All-get_or}
 use Rattle.std.proofs.lemmas.Bool.{cases_eq, cases_lt}
 use Rattle.abstract_log.specs.declared.script.Sizes.{Sizes}
 use Rattle.abstract_log.specs.declared.world.World.{World}
 use Rattle.abstract_log.specs.Worlds.{log_of}
-use Rattle.flstore_rounds.specs.declared.epochs.Epoch.{Epoch}
-use Rattle.flstore_rounds.specs.Epochs.{EpochList, IsEpochList, IsPrefix, first_epoch}
+use Rattle.flstore_rounds.specs.Epochs.{EpochList}
 use Rattle.flstore_rounds.specs.Heads.{Pair, blank, head, IsTruePair}
-use Rattle.flstore_rounds.proofs.EpochLemmas.{starts_from}
 use Rattle.flstore_rounds.proofs.HeadLemmas.{head_filled}
 use Rattle.token_queue.specs.declared.entry.Entry.{Entry}
 use Rattle.token_queue.specs.Queues.{QueueState, outbox_for}
@@ -18,14 +16,6 @@ use Rattle.stage_world.specs.Stages.{Datacentre, IsFilledIn, no_epochs, no_queue
 use Rattle.stage_world.specs.StandsFor.{StandsAt, AreMembers, AreQueues}
 use Rattle.stage_world.proofs.FilledLemmas.{filled_within}
 use Rattle.stage_world.proofs.ListLemmas.{All-set_at}
-
--- belongs to flstore_rounds
-
-pub prefix_refl : (t : EpochList) → IsPrefix t t
-prefix_refl t = record { round = refl; shorter = omega arith; same = sym (take_all (length t.list) t.list (omega arith)) }
-
-pub starts_all : (t : EpochList) → IsEpochList t → All (λ n. 1 ≤ n.start) t.list
-starts_all t h = λ k e low. subst (λ (n : Epoch). 1 ≤ n.start) (sym (get_or_default t.list k e first_epoch low)) (starts_from t k h low)
 
 -- members
 
