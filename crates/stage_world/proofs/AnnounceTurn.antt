@@ -1,9 +1,8 @@
 -- The turn that announces one filter more keeps what the stages stand for.
-use Rattle.std.proofs.Common.{◌≡◌, ℕ, ◌<◌, ◌≤◌, ltb, length, ap, sym, ◌∙◌, subst, arith, Option, Some, None}
+use Rattle.std.proofs.Common.{◌≡◌, ℕ, ◌<◌, ◌≤◌, ltb, length, ap, sym, ◌∙◌, subst, arith, Some, None}
 use Rattle.std.proofs.lemmas.Bool.{cond-false, le-ltb}
 use Rattle.std.proofs.lemmas.Option.{same_Some}
 use Rattle.abstract_log.specs.declared.world.World.{World}
-use Rattle.toid_filter.specs.declared.filter.Mark.{Mark}
 use Rattle.toid_filter.specs.Champions.{last_share}
 use Rattle.toid_filter.specs.Filters.{Announcement, mark_accepted}
 use Rattle.stage_world.specs.Stages.{Datacentre}

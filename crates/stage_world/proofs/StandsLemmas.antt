@@ -1,39 +1,18 @@
--- What stands of a datacentre whose stages stand for a world, and its parts once a list is changed.
-use Rattle.std.proofs.Common.{◌≡◌, ℕ, ◌+◌, ◌<◌, ◌≤◌, List, [], length, set, refl, ap, sym, ◌∙◌, subst, inl, inr, arith, None}
+-- The heads of a datacentre whose stages stand for a world, and the entries of an outbox.
+use Rattle.std.proofs.Common.{ℕ, ◌<◌, ◌≤◌, [], length, sym, subst, inl, inr, arith}
 use Rattle.std.specs.List.{All}
-use Rattle.std.proofs.lemmas.List.{get_or-set_same, get_or-set_other, get_or_past, length-set}
+use Rattle.std.proofs.lemmas.List.{get_or_past}
 use Rattle.std.proofs.lemmas.List.Elements.{All-nil, All-get_or}
-use Rattle.std.proofs.lemmas.Bool.{cases_eq, cases_lt}
-use Rattle.abstract_log.specs.declared.script.Sizes.{Sizes}
+use Rattle.std.proofs.lemmas.Bool.{cases_lt}
 use Rattle.abstract_log.specs.declared.world.World.{World}
 use Rattle.abstract_log.specs.Worlds.{log_of}
-use Rattle.flstore_rounds.specs.Epochs.{EpochList}
 use Rattle.flstore_rounds.specs.Heads.{Pair, blank, head, IsTruePair}
 use Rattle.flstore_rounds.proofs.HeadLemmas.{head_filled}
 use Rattle.token_queue.specs.declared.entry.Entry.{Entry}
 use Rattle.token_queue.specs.Queues.{QueueState, outbox_for}
-use Rattle.stage_world.specs.Stages.{Datacentre, IsFilledIn, no_epochs, no_queue, queue_at, vector_at}
-use Rattle.stage_world.specs.StandsFor.{StandsAt, AreMembers, AreQueues}
+use Rattle.stage_world.specs.Stages.{Datacentre, IsFilledIn, no_epochs, vector_at}
+use Rattle.stage_world.specs.StandsFor.{StandsAt}
 use Rattle.stage_world.proofs.FilledLemmas.{filled_within}
-use Rattle.stage_world.proofs.ListLemmas.{All-set_at}
-
--- members
-
--- the numbers of members as they were
-pub members_same : (t : EpochList) (ring at nv : ℕ) (old new : Sizes) → new ≡ old → AreMembers t ring at nv old → AreMembers t ring at nv new
-members_same t ring at nv old new same h = subst (λ s. AreMembers t ring at nv s) (sym same) h
-
--- a queue changed, with its number
-pub queues_set : (qs : List QueueState) (i : ℕ) (q : QueueState) → q.number ≡ (queue_at qs i).number → q.token ≡ None → AreQueues qs → AreQueues (set qs i q)
-queues_set qs i q number apart h = record {
-  numbers = λ k low. elim (cases_eq k i) [
-    | inl same ↦
-        let inside : i < length qs = omega (arith, length-set qs i q) in
-        ap (λ j. (queue_at (set qs i q) j).number) same ∙ ap (λ (x : QueueState). x.number) (get_or-set_same qs i q no_queue inside) ∙ number ∙ h.numbers i inside ∙ sym same
-    | inr other ↦ ap (λ (x : QueueState). x.number) (get_or-set_other qs i k q no_queue other) ∙ h.numbers k (omega (arith, length-set qs i q))
-  ];
-  apart = All-set_at (λ (x : QueueState). x.token ≡ None) qs i q no_queue (λ _ _. apart) h.apart;
-}
 
 -- what holds of all entries in the outboxes holds of those for one maintainer
 pub outbox_entries : (P : Entry → Type 0) (q : QueueState) (m : ℕ) → All (λ es. All P es) q.outboxes → All P (outbox_for q m)
@@ -41,8 +20,6 @@ outbox_entries P q m all = elim (cases_lt m (length q.outboxes)) [
   | inl within ↦ All-get_or (λ es. All P es) q.outboxes m [] within all
   | inr past ↦ subst (All P) (sym (get_or_past q.outboxes m [] past)) (All-nil P)
 ]
-
--- heads
 
 -- there is a first vector, and its pair is true
 pub some_vector : (w : World) (d : ℕ) (z : Datacentre) → StandsAt w d z → 0 < length z.vectors
