@@ -1,8 +1,8 @@
 -- Owners by epoch lists, of which one is the beginning of the other, and by one list epoch by epoch.
 use Rattle.std.proofs.Common.{◌≡◌, ℕ, zero, suc, ◌+◌, ◌-◌, ◌^◌, ◌<◌, ◌≤◌, cond, ltb, leb, List, [], ◌∷◌, ◌++◌, length, take, drop, get_or, refl, ap, sym, ◌∙◌, inl, inr, arith}
 use Rattle.std.specs.List.{All}
-use Rattle.std.proofs.lemmas.List.{take-append-drop, drop-drop, take-append-le, drop-append-le, length-append, get_or-drop, length-drop}
-use Rattle.std.proofs.lemmas.List.Elements.{All-drop, All-head, All-tail, All-same, All-push, All-get_or, All-from_get_or}
+use Rattle.std.proofs.lemmas.List.{take-append-drop, drop-drop, take-append-le, drop-append-le, length-append, get_or-drop, length-drop, take_all, drop_all}
+use Rattle.std.proofs.lemmas.List.Elements.{All-drop, All-head, All-tail, All-same, All-push, All-get_or, All-from_get_or, All-nil, All-cons}
 use Rattle.std.proofs.lemmas.Bool.{cases_lt, cases_eq, cond-true, cond-false, cond_both, lt-leb, le-leb, ltb-true, ltb-false}
 use Rattle.std.proofs.Math.Seq.{drop-cons}
 use Rattle.std.proofs.Math.ListN.{get_or-append}
@@ -10,11 +10,11 @@ use Rattle.std.proofs.lemmas.List.{get_or_push}
 use Rattle.flstore_rounds.specs.declared.epochs.Epoch.{Epoch}
 use Rattle.flstore_rounds.specs.Epochs.{EpochList, epoch_at, epoch_from, first_epoch, last_from, last_epoch, owner, owner_in, with_epoch, IsEpochList, IsPrefix, IsSettled, later_than, longer}
 
-epoch_from-append : (f : Epoch) (xs ys : List Epoch) (p : ℕ) → epoch_from f (xs ++ ys) p ≡ epoch_from (epoch_from f xs p) ys p
+pub epoch_from-append : (f : Epoch) (xs ys : List Epoch) (p : ℕ) → epoch_from f (xs ++ ys) p ≡ epoch_from (epoch_from f xs p) ys p
 epoch_from-append f [] ys p = refl
 epoch_from-append f (x ∷ xs) ys p = epoch_from-append (cond (leb x.start p) x f) xs ys p
 
-epoch_from-above : (f : Epoch) (ys : List Epoch) (p : ℕ) → All (λ n. p < n.start) ys → epoch_from f ys p ≡ f
+pub epoch_from-above : (f : Epoch) (ys : List Epoch) (p : ℕ) → All (λ n. p < n.start) ys → epoch_from f ys p ≡ f
 epoch_from-above f [] p above = refl
 epoch_from-above f (y ∷ ys) p above =
     let first : p < y.start = All-head (λ (n : Epoch). p < n.start) y ys above in
@@ -55,6 +55,17 @@ longer_prefix e f t he hf = cond_both (ltb (length e.list) (length f.list)) f e 
 pub owner-alike : (e f t : EpochList) (p : ℕ) → IsPrefix e t → IsPrefix f t → length e.list ≤ length f.list → IsSettled t e p → owner f p ≡ owner e p
 owner-alike e f t p he hf short settled =
     owner-prefix f t p hf (All-later (λ n. p < n.start) e f t short settled) ∙ sym (owner-prefix e t p he settled)
+
+-- a list is its own beginning, and settles each position
+pub prefix_refl : (t : EpochList) → IsPrefix t t
+prefix_refl t = record { round = refl; shorter = omega arith; same = sym (take_all (length t.list) t.list (omega arith)) }
+
+pub all_settled : (t e : EpochList) (p : ℕ) → e ≡ t → IsSettled t e p
+all_settled t e p same = rw same (All-same (λ (n : Epoch). p < n.start) (later_than t t) [] (drop_all (length t.list) t.list (omega arith)) (All-nil (λ (n : Epoch). p < n.start)))
+
+-- what a list settles for a member, a longer one does too
+pub owns_longer : (t e f : EpochList) (m p : ℕ) → IsPrefix e t → IsPrefix f t → length e.list ≤ length f.list → owner e p ≡ m → IsSettled t e p → (owner f p ≡ m) × IsSettled t f p
+owns_longer t e f m p he hf short own settled = (owner-alike e f t p he hf short settled ∙ own, All-later (λ n. p < n.start) e f t short settled)
 
 pub length_push : {A : Type 0} (xs : List A) (x : A) → length (xs ++ x ∷ []) ≡ length xs + 1
 length_push xs x = omega (arith, length-append xs (x ∷ []))
@@ -171,6 +182,34 @@ pub last_few : (t : EpochList) → IsEpochList t → (last_epoch t).members ≤ 
 last_few t h =
     let n : ℕ = length t.list - 1 in
     omega (arith, ap (λ (e : Epoch). e.members) (last_from-at first_epoch first_epoch t.list n (omega (arith, h.some))), All-get_or (λ (e : Epoch). e.members ≤ 16) t.list n first_epoch (omega (arith, h.some)) h.few_members)
+
+pub last_some : (t : EpochList) → IsEpochList t → 1 ≤ (last_epoch t).members
+last_some t h =
+    let n : ℕ = length t.list - 1 in
+    omega (arith, ap (λ (e : Epoch). e.members) (last_from-at first_epoch first_epoch t.list n (omega (arith, h.some))), All-get_or (λ (e : Epoch). 1 ≤ e.members) t.list n first_epoch (omega (arith, h.some)) h.some_members)
+
+-- the ranges of all epochs
+pub all_starts_from : (t : EpochList) → IsEpochList t → All (λ e. 1 ≤ e.start) t.list
+all_starts_from t h = All-from_get_or (λ (e : Epoch). 1 ≤ e.start) t.list first_epoch (λ i within. starts_from t i h within)
+
+pub all_members_most : (t : EpochList) → IsEpochList t → All (λ e. e.members ≤ (last_epoch t).members) t.list
+all_members_most t h = All-from_get_or (λ (e : Epoch). e.members ≤ (last_epoch t).members) t.list first_epoch (λ i within. members_most t i h within)
+
+-- one epoch, from the first position on
+pub first_epoch_list : (round members : ℕ) → 1 ≤ round → round ≤ 1024 → 1 ≤ members → members ≤ 16 → IsEpochList (record { round = round; list = record { start = 1; members = members } ∷ [] })
+first_epoch_list round members from to some few =
+    let e : Epoch = record { start = 1; members = members } in
+    record {
+      round_from = from;
+      round_to = to;
+      some = omega arith;
+      first = refl;
+      lids = All-cons (λ (x : Epoch). x.start < 2 ^ 48) e [] (omega arith) (All-nil (λ (x : Epoch). x.start < 2 ^ 48));
+      some_members = All-cons (λ (x : Epoch). 1 ≤ x.members) e [] some (All-nil (λ (x : Epoch). 1 ≤ x.members));
+      few_members = All-cons (λ (x : Epoch). x.members ≤ 16) e [] few (All-nil (λ (x : Epoch). x.members ≤ 16));
+      starts_rise = λ i j lt inside. absurd (omega arith);
+      members_rise = λ i j lt inside. absurd (omega arith);
+    }
 
 -- where starts rise, what is at most the next start is at most each later one
 pub next_is_least : (e t : EpochList) (k : ℕ) → IsEpochList t → (length e.list < length t.list → k ≤ (epoch_at t.list (length e.list)).start) → All (λ n. k ≤ n.start) (later_than e t)

@@ -1,37 +1,26 @@
 -- True pairs stay true, each position up to the head of one is placed, and no head falls.
-use Rattle.std.proofs.Common.{◌≡◌, ◌⊎◌, ℕ, zero, suc, ◌+◌, ◌<◌, ◌≤◌, max, ltb, List, [], ◌∷◌, length, get_or, replicate, refl, ap, sym, ◌∙◌, subst, inl, inr, arith, sum}
+use Rattle.std.proofs.Common.{◌≡◌, ◌⊎◌, ℕ, zero, suc, ◌+◌, ◌<◌, ◌≤◌, max, ltb, [], length, get_or, replicate, refl, ap, sym, ◌∙◌, subst, inl, inr, arith, sum}
 use Rattle.std.specs.List.{All}
-use Rattle.std.proofs.lemmas.List.{length-replicate, get_or-replicate, get_or-set_same, get_or-set_other, get_or_past, set_past}
-use Rattle.std.proofs.lemmas.List.Elements.{All-weaker, All-drop}
+use Rattle.std.proofs.lemmas.List.{length-replicate, get_or-replicate, get_or-set_same, get_or-set_other, get_or_past, set_past, drop_all}
+use Rattle.std.proofs.lemmas.List.Elements.{All-weaker, All-drop, All-nil, All-same}
 use Rattle.std.proofs.lemmas.List.Sums.{get_or-le-sum_by}
 use Rattle.std.proofs.lemmas.Bool.{cases_eq, cases_lt, cond_both, ltb-true, ltb-false}
+use Rattle.causal_deps.specs.Counts.{raised}
+use Rattle.causal_deps.proofs.CountsLemmas.{get_or-greater}
 use Rattle.flstore_rounds.specs.declared.epochs.Epoch.{Epoch}
 use Rattle.flstore_rounds.specs.Epochs.{EpochList, owner, with_epoch, IsPrefix, later_than, longer}
-use Rattle.flstore_rounds.specs.Heads.{Pair, blank, greater, raised, mark_at, single, joined, with_own, head_from, head, IsBelowMark, IsHead, IsTrueMark, IsTruePair}
-use Rattle.flstore_rounds.proofs.EpochLemmas.{All-later, All-later_more, longer_left, longer_right, longer_prefix, owner-alike, prefix_more}
+use Rattle.flstore_rounds.specs.Heads.{Pair, blank, mark_at, single, joined, with_own, head_from, head, IsBelowMark, IsHead, IsTrueMark, IsTruePair}
+use Rattle.flstore_rounds.proofs.EpochLemmas.{All-later, All-later_more, longer_left, longer_right, longer_prefix, owner-alike, prefix_more, prefix_refl}
 
--- lists of marks
+-- marks
 
--- whatever the lengths are
-pub get_or-greater : (xs ys : List ℕ) (k : ℕ) → get_or (greater xs ys) k 0 ≡ max (get_or xs k 0) (get_or ys k 0)
-get_or-greater [] ys k = omega arith
-get_or-greater (x ∷ xs) [] k = omega arith
-get_or-greater (x ∷ xs) (y ∷ ys) zero = refl
-get_or-greater (x ∷ xs) (y ∷ ys) (suc k) = get_or-greater xs ys k
-
-pub length-greater : (xs ys : List ℕ) → length xs ≡ length ys → length (greater xs ys) ≡ length xs
-length-greater [] [] e = refl
-length-greater [] (y ∷ ys) e = sym e
-length-greater (x ∷ xs) [] e = refl
-length-greater (x ∷ xs) (y ∷ ys) e = ap suc (length-greater xs ys (omega arith))
-
-max_is : (a b : ℕ) → (max a b ≡ a) ⊎ (max a b ≡ b)
+pub max_is : (a b : ℕ) → (max a b ≡ a) ⊎ (max a b ≡ b)
 max_is a b = grind arith
 
 pub mark_at-joined : (v u : Pair) (m : ℕ) → mark_at (joined v u) m ≡ max (mark_at v m) (mark_at u m)
 mark_at-joined v u m = get_or-greater v.marks u.marks m
 
-mark_at-single_other : (e : EpochList) (m k j : ℕ) → (j ≡ m → ⊥) → mark_at (single e m k) j ≡ 0
+pub mark_at-single_other : (e : EpochList) (m k j : ℕ) → (j ≡ m → ⊥) → mark_at (single e m k) j ≡ 0
 mark_at-single_other e m k j other = get_or-set_other (replicate (m + 1) 0) m j k 0 other ∙ elim (cases_lt j (m + 1)) [
   | inl within ↦ get_or-replicate (m + 1) j 0 0 within
   | inr past ↦ get_or_past (replicate (m + 1) 0) j 0 (omega (arith, length-replicate {A = ℕ} (m + 1) 0))
@@ -41,7 +30,7 @@ pub mark_at-single : (e : EpochList) (m k : ℕ) → mark_at (single e m k) m �
 mark_at-single e m k = get_or-set_same (replicate (m + 1) 0) m k 0 (omega (arith, length-replicate {A = ℕ} (m + 1) 0))
 
 -- each mark of a pair that takes a member's own is its own or the member's
-own_marks : (e : EpochList) (v : Pair) (m k i : ℕ) → (mark_at (with_own v e m k) i ≡ mark_at v i) ⊎ (mark_at (with_own v e m k) i ≡ mark_at (single e m k) i)
+pub own_marks : (e : EpochList) (v : Pair) (m k i : ℕ) → (mark_at (with_own v e m k) i ≡ mark_at v i) ⊎ (mark_at (with_own v e m k) i ≡ mark_at (single e m k) i)
 own_marks e v m k i = elim (cases_eq i m) [
   | inr other ↦ inl (get_or-set_other v.marks m i (max (mark_at v m) k) 0 other)
   | inl same ↦ elim (cases_lt m (length v.marks)) [
@@ -57,7 +46,7 @@ own_marks e v m k i = elim (cases_eq i m) [
 ]
 
 -- and at least what it was
-own_raises : (e : EpochList) (v : Pair) (m k i : ℕ) → mark_at v i ≤ mark_at (with_own v e m k) i
+pub own_raises : (e : EpochList) (v : Pair) (m k i : ℕ) → mark_at v i ≤ mark_at (with_own v e m k) i
 own_raises e v m k i = elim (cases_eq i m) [
   | inr other ↦ omega (arith, get_or-set_other v.marks m i (max (mark_at v m) k) 0 other)
   | inl same ↦ elim (cases_lt m (length v.marks)) [
@@ -65,6 +54,19 @@ own_raises e v m k i = elim (cases_eq i m) [
     | inl within ↦ omega (arith, ap (λ j. get_or (raised v.marks m k) j 0) same, get_or-set_same v.marks m (max (mark_at v m) k) 0 within, ap (mark_at v) same)
   ]
 ]
+
+-- which of the two each mark is
+pub with_own_at : (v : Pair) (e : EpochList) (m k j : ℕ) → (mark_at v j ≤ mark_at (with_own v e m k) j) × ((mark_at (with_own v e m k) j ≡ mark_at v j) ⊎ ((j ≡ m) × (mark_at (with_own v e m k) j ≡ max (mark_at v m) k)))
+with_own_at v e m k j = (
+  own_raises e v m k j,
+  elim (cases_eq j m) [
+    | inr other ↦ inl (get_or-set_other v.marks m j (max (mark_at v m) k) 0 other)
+    | inl is ↦ elim (cases_lt m (length v.marks)) [
+      | inr past ↦ inl (ap (λ xs. get_or xs j 0) (set_past v.marks m (max (mark_at v m) k) past))
+      | inl within ↦ inr (is, ap (λ i. get_or (raised v.marks m k) i 0) is ∙ get_or-set_same v.marks m (max (mark_at v m) k) 0 within)
+    ]
+  ],
+)
 
 -- truth
 
@@ -105,6 +107,15 @@ blank_prefix_true t e P known starts = record {
   reached = λ m. inl (mark_at-blank e m);
   filled = λ p first below. absurd (omega (arith, mark_at-blank e (owner e p)));
   settled = λ m. All-weaker (λ (n : Epoch). 1 ≤ n.start) (λ (n : Epoch). mark_at (blank e) m ≤ n.start) (λ n from. omega (arith, mark_at-blank e m)) (later_than e t) (All-drop (λ (n : Epoch). 1 ≤ n.start) (length e.list) t.list starts);
+}
+
+-- as by the whole list, wherever its epochs start
+pub blank_true : (t : EpochList) (P : ℕ → Type 0) → IsTruePair t P (blank t)
+blank_true t P = record {
+  known = prefix_refl t;
+  reached = λ m. inl (mark_at-blank t m);
+  filled = λ p first below. absurd (omega (arith, mark_at-blank t (owner t p)));
+  settled = λ m. All-same (λ (x : Epoch). mark_at (blank t) m ≤ x.start) (later_than t t) [] (drop_all (length t.list) t.list (omega arith)) (All-nil (λ (x : Epoch). mark_at (blank t) m ≤ x.start));
 }
 
 -- below a mark the pair's list and a longer one deal alike

@@ -1,16 +1,7 @@
 -- Marks of members, and the head of the log: the position up to which there is no gap.
-use Rattle.std.specs.Prelude.{◌≡◌, ◌⊎◌, ℕ, zero, suc, ◌+◌, ◌<◌, ◌≤◌, max, if◌then◌else◌, nat_lt, Bool, IsTrue, List, [], ◌∷◌, sum, replicate, slice_index, slice_set, All}
+use Rattle.std.specs.Prelude.{◌≡◌, ◌⊎◌, ℕ, zero, suc, ◌+◌, ◌<◌, ◌≤◌, if◌then◌else◌, nat_lt, Bool, IsTrue, List, sum, replicate, slice_index, slice_set, All}
+use Rattle.causal_deps.specs.Counts.{greater, raised}
 use Rattle.flstore_rounds.specs.Epochs.{EpochList, owner, IsPrefix, later_than, longer}
-
--- entry by entry the greater
-abbrev pub greater : List ℕ → List ℕ → List ℕ
-greater [] ys = ys
-greater (x ∷ xs) [] = x ∷ xs
-greater (x ∷ xs) (y ∷ ys) = max x y ∷ greater xs ys
-
--- entry m becomes the greater of itself and k
-abbrev pub raised : List ℕ → ℕ → ℕ → List ℕ
-raised xs m k = slice_set xs m (max (slice_index xs m) k)
 
 -- an epoch list, and for each of 16 members the position below which it has all that it owns
 pub record Pair : Type 0 where

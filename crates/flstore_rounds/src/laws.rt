@@ -1,8 +1,8 @@
 //! What holds of every epoch list and of every true pair. Each law is a function that does nothing: its
 //! contract is the law. The placed positions are given by a test.
-ghost use Rattle.std.specs.Prelude.{◌≡◌, ℕ, ◌<◌, ◌≤◌, Bool, IsTrue, All, length};
+ghost use Rattle.std.specs.Prelude.{◌≡◌, ℕ, ◌<◌, ◌≤◌, ◌^◌, [], ◌∷◌, Bool, IsTrue, All, length};
 ghost use Rattle.flstore_rounds.specs.declared.epochs.Epoch.{Epoch};
-ghost use Rattle.flstore_rounds.specs.Epochs.{EpochList, IsEpochList, IsPrefix, IsSettled, epoch_at, later_than, owner, with_epoch};
+ghost use Rattle.flstore_rounds.specs.Epochs.{EpochList, IsEpochList, IsPrefix, IsSettled, epoch_at, last_epoch, later_than, owner, with_epoch};
 ghost use Rattle.flstore_rounds.specs.Heads.{IsBelowMark, IsHead, IsTrueMark, IsTrueOf, Pair, blank, head, joined, mark_at, single, with_own};
 
 /// A list deals a position as a longer one does, where each epoch that it lacks starts above it.
@@ -13,6 +13,13 @@ pub fn settled_positions_keep_their_owner()
 /// Where starts rise, what is at most the next start is at most each later one.
 pub fn the_next_start_is_the_least()
     ensures { (e t : EpochList) (mark : ℕ) → IsEpochList t → (length e.list < length t.list → mark ≤ (epoch_at t.list (length e.list)).start) → All (λ n. mark ≤ n.start) (later_than e t) }
+{}
+
+/// One epoch from the first position on is a list, and a list stays one where an epoch is added that starts
+/// above the last one and has more members.
+pub fn later_epochs_keep_lists()
+    ensures first { (round members : ℕ) → 1 ≤ round → round ≤ 1024 → 1 ≤ members → members ≤ 16 → IsEpochList (record { round = round; list = record { start = 1; members = members } ∷ [] }) }
+    ensures more { (t : EpochList) (epoch : Epoch) → IsEpochList t → (last_epoch t).start < epoch.start → (last_epoch t).members < epoch.members → epoch.start < 2 ^ 48 → epoch.members ≤ 16 → IsEpochList (with_epoch t epoch) }
 {}
 
 /// A pair has one head, `head` is it, and no position above it has only positions below marks up to it.
@@ -45,6 +52,11 @@ pub fn joining_keeps_truth()
 /// A true pair stays true where a member's own list and mark are taken in, as they are true.
 pub fn owning_keeps_truth()
     ensures { (t e : EpochList) (placed : ℕ → Bool) (v : Pair) (m mark : ℕ) → IsTrueOf t placed v → IsTrueMark t e (λ p. IsTrue (placed p)) m mark → IsTrueOf t placed (with_own v e m mark) }
+{}
+
+/// One member's true mark alone makes a true pair.
+pub fn single_marks_are_true()
+    ensures { (t e : EpochList) (placed : ℕ → Bool) (m mark : ℕ) → IsTrueMark t e (λ p. IsTrue (placed p)) m mark → IsTrueOf t placed (single e m mark) }
 {}
 
 /// Each position up to the head of a true pair is placed.

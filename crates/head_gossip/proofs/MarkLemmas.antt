@@ -1,36 +1,43 @@
--- Marks that are raised one by one.
-use Rattle.std.proofs.Common.{◌≡◌, ℕ, Bool, IsTrue, ◌+◌, ◌<◌, ◌≤◌, max, List, length, get_or, set, inl, inr, sym, ◌∙◌, arith, ext_get_or, ap}
-use Rattle.std.proofs.lemmas.List.{get_or-set_same, get_or-set_other, length-set}
+-- Marks that are raised, and what stays of them.
+use Rattle.std.proofs.Common.{◌≡◌, ℕ, Bool, IsTrue, ◌<◌, ◌≤◌, max, List, length, get_or, replicate, inl, inr, sym, ◌∙◌, arith, ext_get_or, ap}
+use Rattle.std.proofs.lemmas.List.{get_or-set_same, get_or-set_other, length-set, length-replicate}
+use Rattle.std.proofs.lemmas.List.Elements.{All-from_get_or, All-get_or, All-replicate}
 use Rattle.std.proofs.lemmas.Bool.{cases_eq}
+use Rattle.causal_deps.specs.Counts.{greater, raised}
+use Rattle.causal_deps.proofs.CountsLemmas.{IsMergedBelow, get_or-greater, length-greater}
 use Rattle.flstore_rounds.specs.Epochs.{EpochList}
-use Rattle.flstore_rounds.specs.Heads.{Pair, greater, joined, with_own, IsTrueMark, IsTrueOf}
-use Rattle.flstore_rounds.proofs.HeadLemmas.{get_or-greater, length-greater, joined_true, single_true, with_own_true}
+use Rattle.flstore_rounds.specs.Heads.{Pair, joined, with_own, IsTrueMark, IsTrueOf}
+use Rattle.head_gossip.specs.Marks.{AreMarks}
+use Rattle.flstore_rounds.proofs.HeadLemmas.{joined_true, single_true, with_own_true}
 
--- the first n marks are raised and the others left
-pub record AreRaisedBelow (n : ℕ) (old told new : List ℕ) : Type 0 where
-  pub same : length new ≡ length old
-  pub below : (k : ℕ) → k < n → get_or new k 0 ≡ max (get_or old k 0) (get_or told k 0)
-  pub above : (k : ℕ) → n ≤ k → get_or new k 0 ≡ get_or old k 0
-
-pub none_raised : (old told : List ℕ) → AreRaisedBelow 0 old told old
-none_raised old told = record { same = omega arith; below = λ k none. absurd (omega arith); above = λ k from. omega arith }
-
-pub raised_more : (n : ℕ) (old told new : List ℕ) → n < length old → AreRaisedBelow n old told new → AreRaisedBelow (n + 1) old told (set new n (max (get_or new n 0) (get_or told n 0)))
-raised_more n old told new within h =
-    let x : ℕ = max (get_or new n 0) (get_or told n 0) in
-    record {
-      same = omega (arith, length-set new n x, h.same);
-      below = λ k low. elim (cases_eq k n) [
-        | inl same ↦ omega (arith, get_or-set_same new n x 0 (omega (arith, h.same)), h.above n (omega arith), ap (λ j. get_or (set new n x) j 0) same, ap (λ j. get_or old j 0) same, ap (λ j. get_or told j 0) same)
-        | inr other ↦ omega (arith, get_or-set_other new n k x 0 other, h.below k (omega arith))
-      ];
-      above = λ k from. omega (arith, get_or-set_other new n k x 0 (omega arith), h.above k (omega arith));
-    }
-
-pub all_raised : (n : ℕ) (old told new : List ℕ) → length old ≡ length told → length old ≤ n → AreRaisedBelow n old told new → new ≡ greater old told
+pub all_raised : (n : ℕ) (old told new : List ℕ) → length old ≡ length told → length old ≤ n → IsMergedBelow n old told new → new ≡ greater old told
 all_raised n old told new alike whole h =
     ext_get_or 0 new (greater old told) (omega (arith, length-greater old told alike, h.same))
     (λ k within. h.below k (omega (arith, h.same)) ∙ sym (get_or-greater old told k))
+
+-- no mark falls below 1
+
+pub blank_marks : AreMarks (replicate 16 1)
+blank_marks = record { size = length-replicate {A = ℕ} 16 1; some = All-replicate (λ (k : ℕ). 1 ≤ k) 16 1 (omega arith) }
+
+pub marks_raised : (xs : List ℕ) (m k : ℕ) → AreMarks xs → AreMarks (raised xs m k)
+marks_raised xs m k h = record {
+  size = length-set xs m (max (get_or xs m 0) k) ∙ h.size;
+  some = All-from_get_or (λ (x : ℕ). 1 ≤ x) (raised xs m k) 0 (λ i within.
+      let inside : i < length xs = omega (arith, length-set xs m (max (get_or xs m 0) k)) in
+      let old : 1 ≤ get_or xs i 0 = All-get_or (λ (x : ℕ). 1 ≤ x) xs i 0 inside h.some in
+      elim (cases_eq i m) [
+        | inl same ↦ omega (arith, ap (λ j. get_or (raised xs m k) j 0) same, ap (λ j. get_or xs j 0) same, get_or-set_same xs m (max (get_or xs m 0) k) 0 (omega arith))
+        | inr other ↦ omega (arith, get_or-set_other xs m i (max (get_or xs m 0) k) 0 other)
+      ]);
+}
+
+pub marks_greater : (xs ys zs : List ℕ) → zs ≡ greater xs ys → length zs ≡ 16 → AreMarks xs → AreMarks zs
+marks_greater xs ys zs is size h = record {
+  size = size;
+  some = All-from_get_or (λ (x : ℕ). 1 ≤ x) zs 0 (λ i within.
+      omega (arith, ap (λ ws. get_or ws i 0) is, get_or-greater xs ys i, All-get_or (λ (x : ℕ). 1 ≤ x) xs i 0 (omega (arith, h.size)) h.some));
+}
 
 -- what a vector has become is true, as what it was and what it took in are
 pub owned_is_true : (t : EpochList) (placed : ℕ → Bool) (v w : Pair) (e : EpochList) (m k : ℕ) → w ≡ with_own v e m k → IsTrueOf t placed v → IsTrueMark t e (λ p. IsTrue (placed p)) m k → IsTrueOf t placed w

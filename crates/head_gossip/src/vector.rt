@@ -1,6 +1,8 @@
-ghost use Rattle.std.specs.Prelude.{◌≡◌, ℕ, ◌<◌, ◌≤◌, ◌⊎◌, Bool, IsTrue, length, IfOk, OnOk, OnErr};
+ghost use Rattle.std.specs.Prelude.{◌≡◌, ℕ, ◌<◌, ◌≤◌, ◌⊎◌, Bool, IsTrue, All, length, IfOk, OnOk, OnErr};
+ghost use Rattle.causal_deps.specs.Counts.{greater};
 ghost use Rattle.flstore_rounds.specs.Epochs.{EpochList, IsPrefix};
-ghost use Rattle.flstore_rounds.specs.Heads.{IsHead, IsTrueMark, IsTrueOf, blank, greater, head, joined, with_own};
+ghost use Rattle.flstore_rounds.specs.Heads.{IsHead, IsTrueMark, IsTrueOf, blank, head, joined, with_own};
+ghost use Rattle.head_gossip.specs.Marks.{AreMarks};
 ghost use Rattle.head_gossip.specs.Notes.{pair_of};
 
 use cz_base::{Lid, NoMemory};
@@ -16,7 +18,7 @@ pub struct Note {
 }
 
 /// What a maintainer knows: an epoch list, and for each of 16 maintainers a mark, below which that one
-/// has filled all that it owns. Contracts see both as a pair.
+/// has filled all that it owns; each mark is 1 at least. Contracts see both as a pair.
 #[derive(Debug, Drop)]
 pub struct Vector {
     epochs: Epochs,
@@ -24,14 +26,14 @@ pub struct Vector {
 }
 
 impl Model for Vector {
-    ghost use Rattle.std.specs.Prelude.{◌≡◌, length};
     ghost use Rattle.flstore_rounds.specs.Heads.{Pair};
+    ghost use Rattle.head_gossip.specs.Marks.{AreMarks};
 
     ghost Value = { Pair };
 
     ghost view = { λ vector. record { epochs = vector.epochs; marks = vector.marks } };
 
-    ghost invariant = { λ vector. length vector.marks ≡ 16 };
+    ghost invariant = { λ vector. AreMarks vector.marks };
 }
 
 impl Vector {
@@ -65,7 +67,7 @@ impl Vector {
     /// What it knows, for another vector to hear.
     pub fn tell(&self) -> Result<Note, NoMemory>
         ensures note { IfOk result (λ note. pair_of note ≡ self.now) }
-        ensures size { IfOk result (λ note. length note.marks ≡ 16) }
+        ensures marks { IfOk result (λ note. AreMarks note.marks) }
     {
         Ok(Note {
             epochs: self.epochs.copy()?,
@@ -91,7 +93,7 @@ impl Vector {
     pub fn head(&self) -> Lid
         ensures value { result ≡ head self.now }
         ensures greatest { IsHead self.now result }
-        ensures size { length self.now.marks ≡ 16 }
+        ensures marks { AreMarks self.now.marks }
 
         // Each position up to the head of a true vector is placed.
         ensures placed { (t : EpochList) (placed : ℕ → Bool) → IsTrueOf t placed self.now → (p : ℕ) → 1 ≤ p → p ≤ result → IsTrue (placed p) }

@@ -3,4 +3,7 @@ pub mod SlotLemmas
 pub mod MarkOf
 pub mod LongerLemmas
 pub mod PassLemmas
+pub mod CountLemmas
 pub mod LawLemmas
+pub mod StateLemmas
+pub mod OwnLemmas

@@ -79,6 +79,13 @@ reached_more own filled more grows k reached = elim reached [
   | inr at ↦ inr (at.0, at.1, record { here = at.2.here; all = λ q le is. grows q (at.2.all q le is) })
 ]
 
+-- where the same positions are filled
+pub mark_same : (own filled also : ℕ → Type 0) → ((p : ℕ) → filled p → also p) → ((p : ℕ) → also p → filled p) → (k : ℕ) → IsMarkOf own filled k → IsMarkOf own also k
+mark_same own filled also to back k mark = record {
+  reached = reached_more own filled also to k mark.reached;
+  greatest = λ p full. mark.greatest p (record { here = full.here; all = λ q le is. back q (full.all q le is) });
+}
+
 -- positions up to a filled one are one's own by the one list exactly where they are by the other
 pub mark_alike : (own also filled : ℕ → Type 0) → ((p q : ℕ) → filled p → q ≤ p → own q → also q) → ((p q : ℕ) → filled p → q ≤ p → also q → own q) → (k : ℕ) → IsMarkOf own filled k → IsMarkOf also filled k
 mark_alike own also filled to back k mark = record {

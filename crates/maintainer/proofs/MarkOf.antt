@@ -18,7 +18,8 @@ fold_max_bounds f a (x ∷ xs) =
     let rest = fold_max_bounds f (max a (f x)) xs in
     (omega (arith, rest.0), All-cons (λ y. f y ≤ fold (λ b z. max b (f z)) (max a (f x)) xs) x xs (omega (arith, rest.0)) rest.1)
 
-times-none : (p : ℕ) (ps : List ℕ) → All (λ q. q ≡ p → ⊥) ps → times p ps ≡ 0
+-- a position that is not there is counted 0 times
+pub times-none : (p : ℕ) (ps : List ℕ) → All (λ q. q ≡ p → ⊥) ps → times p ps ≡ 0
 times-none p [] none = refl
 times-none p (q ∷ qs) none =
     let here : q ≡ p → ⊥ = All-head (λ x. x ≡ p → ⊥) q qs none in

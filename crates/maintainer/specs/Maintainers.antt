@@ -1,5 +1,5 @@
 -- Maintainers: each keeps the values at the positions that it owns.
-use Rattle.std.specs.Prelude.{◌≡◌, ℕ, zero, suc, ◌+◌, ◌-◌, ◌^◌, ◌<◌, ◌≤◌, ◌==◌, max, if◌then◌else◌, nat_lt, List, [], ◌∷◌, length, Option, Some, None, slice_index_or, count_by, fold, All, refl}
+use Rattle.std.specs.Prelude.{◌≡◌, ℕ, zero, suc, ◌+◌, ◌-◌, ◌^◌, ◌<◌, ◌≤◌, ◌==◌, max, not, if◌then◌else◌, nat_lt, List, [], ◌∷◌, length, filter, Option, Some, None, slice_get, slice_index_or, count_by, fold, All, refl}
 use Rattle.std.specs.Coded.{Coded, code_by, coded×, coded_ℕ, coded_list}
 use Rattle.flstore_rounds.specs.declared.epochs.Epoch.{Epoch}
 use Rattle.flstore_rounds.specs.Epochs.{EpochList, owner, longer, IsPrefix, IsSettled}
@@ -96,6 +96,23 @@ module _ {T : Type 0} where
   -- with the longer list
   abbrev pub learned : MaintainerState T → EpochList → MaintainerState T
   learned m e = record m { epochs = longer m.epochs e }
+
+  -- the value at p is let go, and p is gone
+  abbrev pub collected : MaintainerState T → ℕ → MaintainerState T
+  collected m p = record m { entries = filter (λ e. not (e.lid == p)) m.entries; gone = p ∷ m.gone }
+
+  -- with several values placed, one after another
+  abbrev pub moved_in : MaintainerState T → List (Slot T) → MaintainerState T
+  moved_in m es = fold (λ n e. placed n e.lid e.value) m es
+
+  -- without the spare places, of which no definition speaks
+  abbrev pub plain : MaintainerState T → MaintainerState T
+  plain m = record m { spare = 0 }
+
+  -- the entry has what stands in the list at its position
+  pub record IsEntryOf (log : List T) (e : Slot T) : Type 0 where
+    pub first : 1 ≤ e.lid
+    pub stands : slice_get log (e.lid - 1) ≡ Some e.value
 
   -- positions rise along the entries
   pub record AreRising (es : List (Slot T)) : Type 0 where

@@ -1,4 +1,4 @@
-ghost use Rattle.std.specs.Prelude.{◌≡◌, ◌⊎◌, ℕ, ◌^◌, ◌<◌, ◌≤◌, ◌↔◌, Contains, OnErr, OnOk};
+ghost use Rattle.std.specs.Prelude.{◌≡◌, ◌⊎◌, ℕ, ◌^◌, ◌<◌, ◌≤◌, ◌↔◌, Contains, IsSome, OnErr, OnOk};
 ghost use Rattle.causal_deps.specs.declared.answers.Shown.{Shown};
 ghost use Rattle.flstore_rounds.specs.Epochs.{IsPrefix, IsSettled};
 ghost use Rattle.maintainer.specs.Maintainers.{AreKept, IsFilled, IsMark, IsOwn, empty, learned, mark_of, placed, shown_value, value_at};
@@ -110,6 +110,7 @@ impl<T> Maintainer<T> {
         ensures value { shown_value result ≡ value_at lid self.now.entries }
         ensures gone { (result ≡ Shown.Gone) ↔ Contains self.now.gone lid }
         ensures empty { (result ≡ Shown.Empty) ↔ (¬ IsFilled self.now lid) }
+        ensures filled { (IsSome (shown_value result) ⊎ (result ≡ Shown.Gone)) ↔ IsFilled self.now lid }
     {
         match value_of(&self.slots, lid) {
             Some(value) => Shown::Filled(value),

@@ -141,3 +141,13 @@ none_is_ready d log items =
 
 pub drained_twice : (d : ℕ) (log : List Record) (items : List Item) → drain d (log ++ (drain d log items).records) (drain d log items).deferred ≡ all_deferred (drain d log items).deferred
 drained_twice d log items = drain_of_none d (length (drain d log items).deferred) (log ++ (drain d log items).records) (drain d log items).deferred (none_left d (length items) log items (omega arith))
+
+-- no more is stamped than there are items
+pub drain_by_few : (n d : ℕ) (counts : List ℕ) (items : List Item) → length (drain_by_at_most n d counts items).records ≤ n
+drain_by_few zero d counts items = omega arith
+drain_by_few (suc n) d counts items = at (first_out (is_ready counts) items) (λ cs xs. drain_by_few n d cs xs)
+  where
+    at : (o : Option (Item × List Item)) → ((cs : List ℕ) (xs : List Item) → length (drain_by_at_most n d cs xs).records ≤ n)
+        → length (option_map_or (λ found. with_first found.0 (record_from d counts found.0) (drain_by_at_most n d (set counts (record_from d counts found.0).host (record_from d counts found.0).toid) found.1)) o (all_deferred items)).records ≤ suc n
+    at None ih = omega arith
+    at (Some found) ih = omega (arith, ih (set counts (record_from d counts found.0).host (record_from d counts found.0).toid) found.1)

@@ -5,3 +5,4 @@ pub mod RoomLemmas
 pub mod TokenLemmas
 pub mod Stamping
 pub mod QueueLemmas
+pub mod Dealing

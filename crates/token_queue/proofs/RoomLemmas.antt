@@ -1,5 +1,5 @@
 -- Room in outboxes.
-use Rattle.std.proofs.Common.{◌≡◌, ℕ, suc, ◌+◌, ◌-◌, ◌<◌, ◌≤◌, cond, eqb, List, [], ◌∷◌, ◌++◌, length, get_or, set, refl, ap, sym, ◌∙◌, inl, inr, arith}
+use Rattle.std.proofs.Common.{◌≡◌, ℕ, zero, suc, ◌+◌, ◌-◌, ◌<◌, ◌≤◌, cond, eqb, List, [], ◌∷◌, ◌++◌, length, get_or, set, refl, ap, sym, ◌∙◌, inl, inr, arith}
 use Rattle.std.proofs.lemmas.List.{get_or-set_same, get_or-set_other, length-set, map-append, map-set, get_or-map, get_or_default, replicate-append-replicate}
 use Rattle.std.proofs.Math.Seq.{map-set_same}
 use Rattle.std.proofs.lemmas.Bool.{cases_eq}
@@ -11,6 +11,12 @@ use Rattle.token_queue.specs.Room.{OutboxState, no_outbox, entries_of, owned_amo
 
 pub owned_first : (e : EpochList) (m p end : ℕ) → p < end → owned_among e m p (end - p) ≡ cond (eqb (owner e p) m) 1 0 + owned_among e m (p + 1) (end - (p + 1))
 owned_first e m p end within = let more : end - p ≡ suc (end - (p + 1)) = omega arith in ap (owned_among e m p) more
+
+-- of fewer positions a member owns no more
+pub owned_fewer : (e : EpochList) (m p a b : ℕ) → a ≤ b → owned_among e m p a ≤ owned_among e m p b
+owned_fewer e m p zero b le = omega arith
+owned_fewer e m p (suc a) zero le = absurd (omega arith)
+owned_fewer e m p (suc a) (suc b) le = omega (arith, owned_fewer e m (p + 1) a b (omega arith))
 
 -- one more position is counted for its owner
 pub owned_counted : (e : EpochList) (m p end total w : ℕ) (xs : List ℕ) → w < length xs → owner e p ≡ w → p < end → get_or xs m 0 + owned_among e m p (end - p) ≡ total

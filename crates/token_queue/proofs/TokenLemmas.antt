@@ -1,15 +1,14 @@
 -- The token, one stamping at a time.
-use Rattle.std.proofs.Common.{◌≡◌, ℕ, ◌+◌, ◌<◌, ◌≤◌, Bool, List, length, get_or, set, ap, ap₂, sym, ◌∙◌, subst, arith, Option, Some, None}
+use Rattle.std.proofs.Common.{◌≡◌, ℕ, ◌+◌, ◌<◌, ◌≤◌, ◌^◌, Bool, List, length, get_or, set, ap, ap₂, sym, ◌∙◌, subst, arith, Option, Some, None}
 use Rattle.std.specs.List.{All, remove, position}
-use Rattle.std.specs.Option.{option_map, option_map_or}
+use Rattle.std.specs.Option.{ForSome, option_map, option_map_or}
 use Rattle.std.proofs.lemmas.List.{length-set}
 use Rattle.std.proofs.lemmas.List.Elements.{All-set, All-weaker}
 use Rattle.std.proofs.lemmas.List.Quantifiers.{position-Some}
 use Rattle.causal_deps.specs.declared.record.Record.{Record}
 use Rattle.causal_deps.specs.declared.record.Item.{Item}
 use Rattle.token_queue.specs.Items.{FitsItem, first_out, is_ready, record_from}
-use Rattle.token_queue.specs.Queues.{TokenState, next_out, entry_after, token_after}
-use Rattle.token_queue.specs.Room.{IsToken}
+use Rattle.token_queue.specs.Queues.{TokenState, IsToken, next_out, entry_after, token_after}
 use Rattle.token_queue.proofs.ListLemmas.{is_out, out_at, out_of_position}
 use Rattle.token_queue.proofs.ItemLemmas.{ready_told, record_ready, record_host}
 
@@ -22,6 +21,15 @@ pub out_is : (p : Item → Bool) (xs ys : List Item) (r : Option ℕ) (i : ℕ) 
 out_is p xs ys r i x found same is at =
     let h = position-Some p xs i x (ap (position p) (sym same) ∙ sym found ∙ is) in
     out_at p xs i x x h.0 h.2 at (ap p at ∙ h.1)
+
+-- what is stamped next has a position, and a draft a number
+pub lid_left : (t u : TokenState) (item : Item) (rest : List Item) → t ≡ u → next_out t ≡ Some (item, rest) → ForSome (next_out u) (λ _. u.last + 1 < 2 ^ 48) → t.last + 1 < 2 ^ 48
+lid_left t u item rest same is left =
+    let mine : ForSome (next_out t) (λ _. t.last + 1 < 2 ^ 48) = subst (λ (x : TokenState). ForSome (next_out x) (λ _. x.last + 1 < 2 ^ 48)) (sym same) left in
+    mine (item, rest) is
+
+pub toid_left : (t : TokenState) → IsToken t → t.last + 1 < 2 ^ 48 → get_or t.counts t.dc 0 + 1 < 2 ^ 48
+toid_left t h left = omega (arith, h.counted t.dc 0 h.here)
 
 pub entry_is : (t : TokenState) (item : Item) (rest : List Item) (r : Record) → next_out t ≡ Some (item, rest) → r ≡ record_from t.dc t.counts item
     → Some (record { lid = t.last + 1; rec = r }) ≡ option_map (entry_after t) (next_out t)

@@ -1,14 +1,14 @@
 -- The token, and queues that stamp while they have it.
-use Rattle.std.specs.Prelude.{◌≡◌, ℕ, suc, ◌+◌, ◌==◌, List, [], ◌∷◌, ◌++◌, length, map, replicate, Option, Some, slice_index_or, slice_set}
-use Rattle.std.specs.List.{filter}
+use Rattle.std.specs.Prelude.{◌≡◌, ℕ, suc, ◌+◌, ◌<◌, ◌≤◌, ◌==◌, List, [], ◌∷◌, ◌++◌, length, map, replicate, Option, Some, None, slice_index_or, slice_set, All, sum_by}
+use Rattle.std.specs.List.{count_by, filter}
 use Rattle.causal_deps.specs.declared.record.Record.{Record}
 use Rattle.causal_deps.specs.declared.record.Item.{Item}
 use Rattle.causal_deps.specs.Logs.{AreCountsOf}
 use Rattle.flstore_rounds.specs.Epochs.{EpochList, owner}
 use Rattle.token_queue.specs.declared.entry.Entry.{Entry}
 use Rattle.token_queue.specs.declared.entry.Stamp.{Stamp}
-use Rattle.token_queue.specs.Items.{is_ready, record_from, first_out}
-use Rattle.token_queue.specs.Drain.{Drained, counts_with}
+use Rattle.token_queue.specs.Items.{FitsItem, is_ready, record_from, first_out}
+use Rattle.token_queue.specs.Drain.{Drained, counts_with, drain_by}
 
 -- the datacentre, how many records of each host are stamped, the last position, what could not be stamped yet, the
 -- epochs, the queue that has the token or had it last, and the number of queues
@@ -20,6 +20,15 @@ pub record TokenState : Type 0 where
   pub epochs : EpochList
   pub at : ℕ
   pub queues : ℕ
+
+-- what each token keeps: its datacentre is one of those counted, no count is above the last position, and its items are
+-- of as many datacentres
+pub record IsToken (t : TokenState) : Type 0 where
+  pub here : t.dc < length t.counts
+  pub counted : All (λ n. n ≤ t.last) t.counts
+  pub fit : All (FitsItem (length t.counts)) t.deferred
+  pub numbered : t.at < 16
+  pub ring : (1 ≤ t.queues) × (t.queues ≤ 16)
 
 -- the items to be stamped, the entries to be placed by each of 16 maintainers, the epochs by which those were stamped,
 -- and the token
@@ -44,6 +53,20 @@ outbox_for q m = slice_index_or q.outboxes m []
 abbrev pub without_outbox : QueueState → ℕ → QueueState
 without_outbox q m = record q { outboxes = slice_set q.outboxes m [] }
 
+-- the queue where its token is left out of account, and with a token or none
+abbrev pub tokenless : QueueState → QueueState
+tokenless q = record q { token = None }
+
+abbrev pub with_token : Option TokenState → QueueState → QueueState
+with_token o q = record q { token = o }
+
+-- how often position p is among the entries, and in all outboxes of a queue
+abbrev pub times_among : ℕ → List Entry → ℕ
+times_among p es = count_by (λ e. e.lid == p) es
+
+abbrev pub waiting : ℕ → QueueState → ℕ
+waiting p q = sum_by (λ outbox. times_among p outbox) q.outboxes
+
 -- a log that the token may stand for
 pub record IsLogOf (t : TokenState) (log : List Record) : Type 0 where
   pub counts : AreCountsOf log t.counts
@@ -66,6 +89,10 @@ abbrev pub dealt : EpochList → List Entry → ℕ → List (List Entry) → Li
 dealt epochs es m [] = []
 dealt epochs es m (outbox ∷ outboxes) = (outbox ++ owned_by epochs m es) ∷ dealt epochs es (suc m) outboxes
 
+-- the queue with an entry last in the outbox of its owner
+abbrev pub with_entry : EpochList → Entry → QueueState → QueueState
+with_entry epochs e q = record q { outboxes = slice_set q.outboxes (owner epochs e.lid) (slice_index_or q.outboxes (owner epochs e.lid) [] ++ e ∷ []) }
+
 -- what a stamping leaves and answers, where its items and the token's were drained so
 abbrev pub stamped_token : TokenState → Drained → TokenState
 stamped_token t all = record t { counts = counts_with t.counts all.records; last = t.last + length all.records; deferred = all.deferred }
@@ -86,6 +113,14 @@ stamps_of t all = map stamp_of (entries_from t.last all.records)
 pub record Stamps (q : QueueState) (t : TokenState) (all : Drained) (stamps : List Stamp) (new : QueueState) : Type 0 where
   pub answer : stamps ≡ stamps_of t all
   pub queue : new ≡ stamped_queue q t all
+
+-- the token with these items behind its own
+abbrev pub with_items : TokenState → List Item → TokenState
+with_items t items = record t { deferred = t.deferred ++ items }
+
+-- what the token's deferred items are drained to
+abbrev pub all_of : TokenState → Drained
+all_of t = drain_by t.dc t.counts t.deferred
 
 -- the first deferred item that is ready, and the others
 abbrev pub next_out : TokenState → Option (Item × List Item)

@@ -1,9 +1,7 @@
 -- Room that is taken before anything is moved.
-use Rattle.std.specs.Prelude.{ℕ, zero, suc, ◌+◌, ◌<◌, ◌≤◌, ◌==◌, if◌then◌else◌, List, [], map, length, slice_index_or, All}
+use Rattle.std.specs.Prelude.{ℕ, zero, suc, ◌+◌, ◌<◌, ◌≤◌, ◌==◌, if◌then◌else◌, List, [], map, length, slice_index_or}
 use Rattle.flstore_rounds.specs.Epochs.{EpochList, owner}
 use Rattle.token_queue.specs.declared.entry.Entry.{Entry}
-use Rattle.token_queue.specs.Items.{FitsItem}
-use Rattle.token_queue.specs.Queues.{TokenState}
 
 -- an outbox, and how many entries it takes without memory
 pub record OutboxState : Type 0 where
@@ -24,12 +22,3 @@ owned_among epochs m p (suc n) = (if owner epochs p == m then 1 else 0) + owned_
 -- each outbox has room for what its member owns of so many positions from p on
 abbrev pub HaveRoom : EpochList → ℕ → ℕ → List OutboxState → Type 0
 HaveRoom epochs p n os = (m : ℕ) → m < length os → owned_among epochs m p n ≤ (slice_index_or os m no_outbox).room
-
--- what each token keeps: its datacentre is one of those counted, no count is above the last position, and its items are
--- of as many datacentres
-pub record IsToken (t : TokenState) : Type 0 where
-  pub here : t.dc < length t.counts
-  pub counted : All (λ n. n ≤ t.last) t.counts
-  pub fit : All (FitsItem (length t.counts)) t.deferred
-  pub numbered : t.at < 16
-  pub ring : (1 ≤ t.queues) × (t.queues ≤ 16)

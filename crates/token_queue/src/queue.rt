@@ -2,13 +2,14 @@ ghost use Rattle.std.specs.Prelude.{◌≡◌, ◌+◌, ◌<◌, ◌≤◌, ◌^
 ghost use Rattle.std.specs.Option.{ForSome, IsSomeAnd, option_copied};
 ghost use Rattle.std.specs.Vec.{vec_len, vec_capacity};
 ghost use Rattle.causal_deps.specs.declared.record.Record.{Record};
+ghost use Rattle.causal_deps.specs.Logs.{AreCountsOf};
 ghost use Rattle.token_queue.specs.Items.{FitsItem};
 ghost use Rattle.token_queue.specs.Drain.{drain, drain_by};
-ghost use Rattle.token_queue.specs.Queues.{IsLogOf, Stamps, dealt, entries_from, no_outboxes, outbox_for, stamped_queue, stamped_token, stamps_of, without_outbox};
-ghost use Rattle.token_queue.specs.Room.{HaveRoom, IsToken, entries_of};
+ghost use Rattle.token_queue.specs.Queues.{IsLogOf, IsToken, Stamps, all_of, dealt, entries_from, no_outboxes, outbox_for, stamped_queue, stamped_token, stamps_of, without_outbox};
+ghost use Rattle.token_queue.specs.Room.{HaveRoom, entries_of};
 
 use crate::entry::stamp_of_entry;
-use crate::room::{Outbox, empty_outboxes, push_reserved, take_room};
+use crate::room::{Outbox, empty_outboxes, most_stamped, push_reserved, take_room};
 use crate::{Entry, Stamp, StampFault, Token};
 use causal_deps::Item;
 use cz_base::{Back, NoMemory, Seq};
@@ -33,12 +34,13 @@ impl Model for Queue {
 
     ghost Value = { QueueState };
 
-    ghost use Rattle.std.specs.Prelude.{◌≡◌, ◌<◌, length};
+    ghost use Rattle.std.specs.Prelude.{◌≡◌, ◌<◌};
+    ghost use Rattle.std.specs.Option.{ForSome};
     ghost use Rattle.std.specs.Vec.{vec_len};
 
     ghost view = { λ q. record { number = q.number; items = q.items.items; outboxes = entries_of q.outboxes.items; epochs = q.epochs; token = q.token } };
 
-    ghost invariant = { λ q. (q.number < 16) × (vec_len q.outboxes ≡ 16) };
+    ghost invariant = { λ q. (q.number < 16) × ((vec_len q.outboxes ≡ 16) × ForSome q.token (λ t. t.at ≡ q.number)) };
 }
 
 impl Queue {
@@ -94,11 +96,11 @@ impl Queue {
     /// first that is gets the next position, and a draft the next number of its datacentre; what is left is
     /// deferred. Refused with `NoToken` exactly where the token is elsewhere.
     pub fn stamp(&mut self) -> Result<Seq<Stamp>, StampFault>
-        requires lids { ForSome self.old.token (λ t. t.last + length t.deferred + length self.old.items < 2 ^ 48) }
+        requires lids { ForSome self.old.token (λ t. t.last + length (drain_by t.dc t.counts (t.deferred ++ self.old.items)).records < 2 ^ 48) }
         requires fit { ForSome self.old.token (λ t. All (FitsItem (length t.counts)) self.old.items) }
 
-        // Whatever the log is, of which the token has the counts and the last position.
-        ensures drains { (log : List Record) → IfOk result (λ stamps. IsSomeAnd self.old.token (λ t. IsLogOf t log → Stamps self.old t (drain t.dc log (t.deferred ++ self.old.items)) stamps self.new)) }
+        // Whatever the log is, of which the token has the counts; and where the token has its last position too.
+        ensures drains { (log : List Record) → IfOk result (λ stamps. IsSomeAnd self.old.token (λ t. AreCountsOf log t.counts → Stamps self.old t (drain t.dc log (t.deferred ++ self.old.items)) stamps self.new)) }
         ensures log { (log : List Record) → OnOk result (IsSomeAnd self.old.token (λ t. IsLogOf t log
             → IsSomeAnd self.new.token (λ u. IsLogOf u (log ++ (drain t.dc log (t.deferred ++ self.old.items)).records)))) }
 
@@ -107,18 +109,20 @@ impl Queue {
 
         ensures no_token { IsErrOf result StampFault.NoToken ↔ (self.old.token ≡ None) }
         ensures err { OnErr result (self.new ≡ self.old) }
+        ensures outboxes { length self.old.outboxes ≡ 16 }
     {
         self.stamp_by_counts()
     }
 
     // The log is nowhere: its counts are enough.
     fn stamp_by_counts(&mut self) -> Result<Seq<Stamp>, StampFault>
-        requires lids { ForSome self.old.token (λ t. t.last + length t.deferred + length self.old.items < 2 ^ 48) }
+        requires lids { ForSome self.old.token (λ t. t.last + length (drain_by t.dc t.counts (t.deferred ++ self.old.items)).records < 2 ^ 48) }
         requires fit { ForSome self.old.token (λ t. All (FitsItem (length t.counts)) self.old.items) }
         ensures ok { IfOk result (λ stamps. IsSomeAnd self.old.token (λ t. Stamps self.old t (drain_by t.dc t.counts (t.deferred ++ self.old.items)) stamps self.new)) }
         ensures token { OnOk result (ForSome self.old.token (λ t. IsToken t)) }
         ensures no_token { IsErrOf result StampFault.NoToken ↔ (self.old.token ≡ None) }
         ensures err { OnErr result (self.new ≡ self.old) }
+        ensures outboxes { length self.old.outboxes ≡ 16 }
     {
         let Some(mut token) = self.token.take() else {
             return Err(StampFault::NoToken);
@@ -133,7 +137,7 @@ impl Queue {
 
     // The memory is taken first, so that what is refused has changed nothing.
     fn stamp_with(&mut self, token: &mut Token) -> Result<Seq<Stamp>, NoMemory>
-        requires lids { token.old.last + length token.old.deferred + length self.old.items < 2 ^ 48 }
+        requires lids { token.old.last + length (drain_by token.old.dc token.old.counts (token.old.deferred ++ self.old.items)).records < 2 ^ 48 }
         requires fit { All (FitsItem (length token.old.counts)) self.old.items }
         ensures answer { IfOk result (λ stamps. stamps ≡ stamps_of token.old (drain_by token.old.dc token.old.counts (token.old.deferred ++ self.old.items))) }
         ensures token { OnOk result (token.new ≡ stamped_token token.old (drain_by token.old.dc token.old.counts (token.old.deferred ++ self.old.items))) }
@@ -142,7 +146,7 @@ impl Queue {
         ensures err { OnErr result ((self.new ≡ self.old) × (token.new ≡ token.old)) }
     {
         let epochs = token.epochs().copy()?;
-        let wanted = token.deferred() + self.items.len();
+        let wanted = most_stamped(token.last(), token.deferred(), self.items.len());
         let mut stamps = Vec::with_capacity(self.alloc, wanted)?;
         take_room(&mut self.outboxes, &epochs, token.last() + 1, wanted)?;
         token.deferred.append(&mut self.items)?;
@@ -156,6 +160,7 @@ impl Queue {
         requires { m < 16 }
         ensures entries { result ≡ outbox_for self.old m }
         ensures queue { self.new ≡ without_outbox self.old m }
+        ensures outboxes { length self.old.outboxes ≡ 16 }
     {
         let alloc = self.alloc;
         self.outboxes[m as usize].take(alloc)
@@ -163,14 +168,16 @@ impl Queue {
 
     /// The epochs by which the queue stamped last; before its first stamping those with which it was made.
     pub fn epochs(&self) -> &Epochs
-        ensures { result.now ≡ self.now.epochs }
+        ensures value { result.now ≡ self.now.epochs }
+        ensures kept { (self.now.number < 16) × (length self.now.outboxes ≡ 16) }
     {
         &self.epochs
     }
 
-    /// The token, where the queue has it.
+    /// The token, where the queue has it; its number is that of the queue.
     pub fn token(&self) -> Option<&Token>
-        ensures { option_copied result ≡ self.now.token }
+        ensures value { option_copied result ≡ self.now.token }
+        ensures at { ForSome self.now.token (λ t. t.at ≡ self.now.number) }
     {
         self.token.as_ref()
     }
@@ -185,13 +192,13 @@ impl Queue {
 
 // Stamps the first deferred item that is ready, until none is.
 fn stamp_deferred(token: &mut Token, outboxes: &mut [Outbox], stamps: &mut Vec<Stamp>)
-    requires lids { token.old.last + length token.old.deferred < 2 ^ 48 }
+    requires lids { token.old.last + length (all_of token.old).records < 2 ^ 48 }
     requires members { length outboxes.old ≡ 16 }
-    requires stamps { vec_len stamps.old + length token.old.deferred ≤ vec_capacity stamps.old }
-    requires room { HaveRoom token.old.epochs (token.old.last + 1) (length token.old.deferred) outboxes.old }
-    ensures stamps { stamps.new.items ≡ stamps.old.items ++ stamps_of token.old (drain_by token.old.dc token.old.counts token.old.deferred) }
-    ensures outboxes { entries_of outboxes.new ≡ dealt token.old.epochs (entries_from token.old.last (drain_by token.old.dc token.old.counts token.old.deferred).records) 0 (entries_of outboxes.old) }
-    ensures token { token.new ≡ stamped_token token.old (drain_by token.old.dc token.old.counts token.old.deferred) }
+    requires stamps { vec_len stamps.old + length (all_of token.old).records ≤ vec_capacity stamps.old }
+    requires room { HaveRoom token.old.epochs (token.old.last + 1) (length (all_of token.old).records) outboxes.old }
+    ensures stamps { stamps.new.items ≡ stamps.old.items ++ stamps_of token.old (all_of token.old) }
+    ensures outboxes { entries_of outboxes.new ≡ dealt token.old.epochs (entries_from token.old.last (all_of token.old).records) 0 (entries_of outboxes.old) }
+    ensures token { token.new ≡ stamped_token token.old (all_of token.old) }
 {
     while let Some(entry) = token.stamp_next() {
         let owner = token.epochs().owner(entry.lid) as usize;

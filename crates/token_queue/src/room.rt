@@ -1,5 +1,5 @@
 //! Room that is taken before anything is moved, so that a refused stamping changes nothing.
-ghost use Rattle.std.specs.Prelude.{◌≡◌, ℕ, [], ◌∷◌, ◌++◌, ◌+◌, ◌<◌, ◌≤◌, ◌^◌, length, slice_index, IfOk, OnOk};
+ghost use Rattle.std.specs.Prelude.{◌≡◌, ℕ, [], ◌∷◌, ◌++◌, ◌+◌, ◌-◌, ◌<◌, ◌≤◌, ◌^◌, length, min, slice_index, IfOk, OnOk};
 ghost use Rattle.std.specs.Vec.{vec_len, vec_capacity};
 ghost use Rattle.token_queue.specs.Queues.{no_outboxes};
 ghost use Rattle.token_queue.specs.Room.{HaveRoom, entries_of, owned_among};
@@ -88,6 +88,16 @@ pub(crate) fn empty_outboxes(alloc: Global) -> Result<Vec<Outbox>, NoMemory>
         outboxes.push(Outbox::new(alloc))?;
     }
     Ok(outboxes)
+}
+
+/// How many of so many deferred items and items of a queue can be stamped behind the last position: positions stay
+/// below 2^48.
+pub(crate) fn most_stamped(last: Lid, deferred: usize, items: usize) -> usize
+    requires { last < 2 ^ 48 }
+    ensures { result ≡ min (deferred + items) (2 ^ 48 - 1 - last) }
+{
+    let left = (1 << 48) - 1 - last;
+    deferred.saturating_add(items).min(left as usize)
 }
 
 // How many of so many positions from p on each member owns.

@@ -1,8 +1,8 @@
 ghost use Rattle.std.specs.Prelude.{◌≡◌, ◌+◌, ◌%◌, ◌<◌, ◌≤◌, ◌^◌, [], length, replicate, slice_index, All};
-ghost use Rattle.std.specs.Option.{option_map, option_map_or};
+ghost use Rattle.std.specs.Option.{ForSome, option_map, option_map_or};
 ghost use Rattle.std.specs.List.{position};
 ghost use Rattle.token_queue.specs.Items.{FitsItem, is_ready, record_from};
-ghost use Rattle.token_queue.specs.Queues.{entry_after, next_out, token_after};
+ghost use Rattle.token_queue.specs.Queues.{IsToken, entry_after, next_out, token_after};
 
 use crate::Entry;
 use causal_deps::{Counts, Item, Record, draft_ready, ready};
@@ -25,8 +25,7 @@ pub struct Token {
 }
 
 impl Model for Token {
-    ghost use Rattle.token_queue.specs.Queues.{TokenState};
-    ghost use Rattle.token_queue.specs.Room.{IsToken};
+    ghost use Rattle.token_queue.specs.Queues.{TokenState, IsToken};
 
     ghost Value = { TokenState };
 
@@ -58,41 +57,46 @@ impl Token {
     pub fn next_queue(&self) -> u32
         ensures value { result ≡ (self.now.at + 1) % self.now.queues }
         ensures there { result < self.now.queues }
+        ensures kept { IsToken self.now }
     {
         (self.at + 1) % self.queues
     }
 
     /// The epochs by which the stamped positions are dealt.
     pub fn epochs(&self) -> &Epochs
-        ensures { result.now ≡ self.now.epochs }
+        ensures value { result.now ≡ self.now.epochs }
+        ensures kept { IsToken self.now }
     {
         &self.epochs
     }
 
     /// How many records of each host are stamped.
     pub fn counts(&self) -> Counts
-        ensures { result ≡ self.now.counts }
+        ensures value { result ≡ self.now.counts }
+        ensures kept { IsToken self.now }
     {
         self.counts
     }
 
     /// How many items are deferred.
     pub fn deferred(&self) -> usize
-        ensures { result ≡ length self.now.deferred }
+        ensures value { result ≡ length self.now.deferred }
+        ensures kept { IsToken self.now }
     {
         self.deferred.len()
     }
 
     /// The position that was stamped last, or 0.
     pub fn last(&self) -> Lid
-        ensures { result ≡ self.now.last }
+        ensures value { result ≡ self.now.last }
+        ensures kept { IsToken self.now }
     {
         self.last
     }
 
     /// The first deferred item that is ready becomes the record at the next position.
     pub(crate) fn stamp_next(&mut self) -> Option<Entry>
-        requires { self.old.last + length self.old.deferred < 2 ^ 48 }
+        requires { ForSome (next_out self.old) (λ _. self.old.last + 1 < 2 ^ 48) }
         ensures entry { result ≡ option_map (entry_after self.old) (next_out self.old) }
         ensures token { self.new ≡ option_map_or (token_after self.old) (next_out self.old) self.old }
     {
