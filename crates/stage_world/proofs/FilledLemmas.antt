@@ -1,11 +1,10 @@
 -- Positions that some maintainer has filled: each is in the log, and shows the log's record unless it is gone.
-use Rattle.std.proofs.Common.{◌≡◌, ℕ, ◌+◌, ◌-◌, ◌≤◌, Bool, true, false, cond, leb, eqb, not, ◌&&◌, List, [], ◌∷◌, ◌++◌, length, take, drop, refl, ap, sym, ◌∙◌, arith, Some}
-use Rattle.std.specs.List.{All, find, flat_map, filter, slice_get}
-use Rattle.std.specs.Option.{option_map}
+use Rattle.std.proofs.Common.{◌≡◌, ℕ, ◌+◌, ◌-◌, ◌≤◌, cond, leb, eqb, ◌&&◌, List, [], ◌∷◌, ◌++◌, length, take, drop, refl, ap, arith}
+use Rattle.std.specs.List.{All, flat_map, slice_get}
 use Rattle.std.proofs.lemmas.List.{take-append-drop, length-append}
-use Rattle.std.proofs.lemmas.List.Elements.{All-nil, All-cons, All-append, All-head, All-tail, filter-append}
+use Rattle.std.proofs.lemmas.List.Elements.{All-nil, All-append, All-head, All-tail, filter-append}
 use Rattle.std.proofs.lemmas.List.Sums.{sum_by-cons, sum_by-append}
-use Rattle.std.proofs.lemmas.Bool.{cond_both, eqb-true}
+use Rattle.std.proofs.lemmas.Bool.{cond_both}
 use Rattle.std.proofs.lemmas.Bool.Decides.{nat_tests}
 use Rattle.causal_deps.specs.declared.record.Record.{Record}
 use Rattle.causal_deps.specs.declared.record.Kind.TheVariants.{Append as AppendKind}
@@ -13,35 +12,15 @@ use Rattle.causal_deps.specs.Logs.{count_of, records_of, is_of}
 use Rattle.abstract_log.specs.declared.world.World.{World}
 use Rattle.abstract_log.specs.Worlds.{log_of, gone_of}
 use Rattle.maintainer.specs.declared.slot.Slot.{Slot}
-use Rattle.maintainer.specs.Maintainers.{MaintainerState, times_filled, times_in, times}
+use Rattle.maintainer.specs.Maintainers.{MaintainerState, IsEntryOf, times_filled, times_in, times}
+use Rattle.maintainer.proofs.CountLemmas.{value_at-log}
 use Rattle.stage_world.specs.Stages.{IsFilledIn, filled, waiting_in, Datacentre}
 use Rattle.stage_world.specs.MoreTurns.{record_kept}
-use Rattle.stage_world.specs.StandsFor.{IsSlotOf, StandsAt, gone_times, position_in}
+use Rattle.stage_world.specs.StandsFor.{StandsAt, gone_times, position_in}
 
 -- what stands for a record that there is not
 abbrev pub no_record : Record
 no_record = record { host = 0; toid = 0; session = 0; index = 0; kind = AppendKind; tags = []; body = []; dep = [] }
-
--- an entry that is counted is found
-pub record IsFoundAt (log : List Record) (p : ℕ) (es : List (Slot Record)) : Type 0 where
-  pub entry : Slot Record
-  pub is : find (λ e. eqb e.lid p) es ≡ Some entry
-  pub at : entry.lid ≡ p
-  pub stands : IsSlotOf log entry
-
-found_at_head : (log : List Record) (p : ℕ) (e : Slot Record) (es : List (Slot Record)) (b : Bool) → eqb e.lid p ≡ b → 1 ≤ times_in p (e ∷ es) → All (IsSlotOf log) (e ∷ es)
-    → (1 ≤ times_in p es → All (IsSlotOf log) es → IsFoundAt log p es) → (x : Slot Record) × (cond b (Some e) (find (λ y. eqb y.lid p) es) ≡ Some x) × (x.lid ≡ p) × IsSlotOf log x
-found_at_head log p e es true is some all ih = (e, refl, eqb-true e.lid p is, All-head (IsSlotOf log) e es all)
-found_at_head log p e es false is some all ih =
-    let none : ◌≡◌ {A = ℕ} (cond (eqb e.lid p) 1 0) 0 = ap (λ b. cond b 1 0) is in
-    let rest = ih (omega (arith, sum_by-cons (λ (y : Slot Record). cond (eqb y.lid p) 1 0) e es)) (All-tail (IsSlotOf log) e es all) in
-    (rest.entry, rest.is, rest.at, rest.stands)
-
-find_counted : (log : List Record) (p : ℕ) (es : List (Slot Record)) → 1 ≤ times_in p es → All (IsSlotOf log) es → IsFoundAt log p es
-find_counted log p [] some all = absurd (omega arith)
-find_counted log p (e ∷ es) some all =
-    let h = found_at_head log p e es (eqb e.lid p) refl some all (find_counted log p es) in
-    record { entry = h.0; is = h.1; at = h.2; stands = h.3 }
 
 -- what all maintainers have filled is what they have entries at, and what is gone
 pub times_in-flat_map : (p : ℕ) (ms : List (MaintainerState Record)) → times_in p (flat_map (λ m. m.entries) ms) + gone_times p ms ≡ filled p ms
@@ -54,7 +33,7 @@ times_in-flat_map p (m ∷ ms) = omega (
   sum_by-cons (λ (x : MaintainerState Record). times p x.gone) m ms,
 )
 
-All-flat_map : (P : Slot Record → Type 0) (ms : List (MaintainerState Record)) → All (λ m. All P m.entries) ms → All P (flat_map (λ m. m.entries) ms)
+pub All-flat_map : (P : Slot Record → Type 0) (ms : List (MaintainerState Record)) → All (λ m. All P m.entries) ms → All P (flat_map (λ m. m.entries) ms)
 All-flat_map P [] all = All-nil P
 All-flat_map P (m ∷ ms) all =
     All-append P m.entries (flat_map (λ (x : MaintainerState Record). x.entries) ms) (All-head (λ (x : MaintainerState Record). All P x.entries) m ms all)
@@ -64,9 +43,8 @@ All-flat_map P (m ∷ ms) all =
 pub record_at_filled : (w : World) (d : ℕ) (z : Datacentre) (p : ℕ) → StandsAt w d z → IsFilledIn z.maintainers p → times p (gone_of w d) ≡ 0
     → record_kept z.maintainers p ≡ slice_get (log_of w d) (p - 1)
 record_at_filled w d z p h some kept =
-    let found = find_counted (log_of w d) p (flat_map (λ m. m.entries) z.maintainers) (omega (arith, times_in-flat_map p z.maintainers, h.placed.collected p))
-    (All-flat_map (IsSlotOf (log_of w d)) z.maintainers h.placed.entries) in
-    ap (option_map (λ (e : Slot Record). e.value)) found.is ∙ sym found.stands.stands ∙ ap (λ q. slice_get (log_of w d) (q - 1)) found.at
+    value_at-log (log_of w d) p (flat_map (λ (m : MaintainerState Record). m.entries) z.maintainers) (omega (arith, times_in-flat_map p z.maintainers, h.placed.collected p))
+    (All-flat_map (IsEntryOf (log_of w d)) z.maintainers h.placed.entries)
 
 -- a filled position is in the log
 pub filled_within : (w : World) (d : ℕ) (z : Datacentre) (p : ℕ) → StandsAt w d z → IsFilledIn z.maintainers p → p ≤ length (log_of w d)
@@ -83,21 +61,3 @@ count_of-append xs ys h = omega (arith, ap length (filter-append (is_of h) xs ys
 
 pub count_whole : (log : List Record) (s h : ℕ) → count_of (take s log) h ≤ count_of log h
 count_whole log s h = omega (arith, count_of-append (take s log) (drop s log) h, ap (λ l. count_of l h) (take-append-drop s log))
-
--- entries that pass, and those that do not, are all
-pub times_in-split : (p : ℕ) (test : Slot Record → Bool) (es : List (Slot Record)) → times_in p (filter test es) + times_in p (filter (λ e. not (test e)) es) ≡ times_in p es
-times_in-split p test [] = refl
-times_in-split p test (e ∷ es) =
-    let rest : times_in p (filter test es) + times_in p (filter (λ x. not (test x)) es) ≡ times_in p es = times_in-split p test es in
-    let f : Slot Record → ℕ = λ x. cond (eqb x.lid p) 1 0 in
-    cond_both (test e) (e ∷ filter test es) (filter test es)
-    (λ xs. times_in p xs + times_in p (cond (not (test e)) (e ∷ filter (λ x. not (test x)) es) (filter (λ x. not (test x)) es)) ≡ times_in p (e ∷ es))
-    (λ yes. rw yes (omega (arith, rest, sum_by-cons f e es, sum_by-cons f e (filter test es))))
-    (λ no. rw no (omega (arith, rest, sum_by-cons f e es, sum_by-cons f e (filter (λ x. not (test x)) es))))
-
--- what is left by a test passes it
-pub All-tested : (P : Slot Record → Type 0) (test : Slot Record → Bool) (es : List (Slot Record)) → All P es → All (λ e. P e × (test e ≡ true)) (filter test es)
-All-tested P test [] all = All-nil (λ e. P e × (test e ≡ true))
-All-tested P test (x ∷ xs) all = cond_both (test x) (x ∷ filter test xs) (filter test xs) (All (λ e. P e × (test e ≡ true)))
-    (λ yes. All-cons (λ e. P e × (test e ≡ true)) x (filter test xs) (All-head P x xs all, yes) (All-tested P test xs (All-tail P x xs all)))
-    (λ no. All-tested P test xs (All-tail P x xs all))
