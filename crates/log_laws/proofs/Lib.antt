@@ -3,3 +3,12 @@ pub mod Growth
 pub mod LawsLemmas
 pub mod LawfulRuns
 pub mod PendingLemmas
+pub mod Sums
+pub mod WriteCounts
+pub mod Places
+pub mod SessionsLemmas
+pub mod TableShapes
+pub mod WrittenLemmas
+pub mod AnsweredLemmas
+pub mod ValidRecords
+pub mod LimitedRuns

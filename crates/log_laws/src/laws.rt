@@ -1,12 +1,17 @@
 //! What holds of every run. Each law is a function that does nothing: its contract is the law.
-ghost use Rattle.std.specs.Prelude.{◌≡◌, ◌≢◌, ℕ, ◌+◌, ◌≤◌, List, [], ◌∷◌, ◌++◌, Some, length, take, slice_get, slice_index};
+ghost use Rattle.std.specs.Prelude.{◌≡◌, ◌≢◌, ℕ, ◌+◌, ◌≤◌, List, [], ◌∷◌, ◌++◌, Some, length, take, slice_get, slice_index, All, Contains};
 ghost use Rattle.causal_deps.specs.declared.record.Record.{Record};
 ghost use Rattle.causal_deps.specs.Logs.{count_of};
 ghost use Rattle.abstract_log.specs.declared.command.Workload.{Workload};
 ghost use Rattle.abstract_log.specs.declared.event.Event.{Event};
-ghost use Rattle.abstract_log.specs.Worlds.{log_of};
+ghost use Rattle.abstract_log.specs.Worlds.{log_of, pending_of};
 ghost use Rattle.abstract_log.specs.Steps.{CanHappen};
 ghost use Rattle.abstract_log.specs.Runs.{IsRun, world_of};
+ghost use Rattle.abstract_log.specs.Shapes.{FitsWorkload, IsShaped};
+ghost use Rattle.abstract_log.specs.Fits.{FitsLimits};
+ghost use Rattle.log_laws.specs.Writes.{writes_at, writes_of};
+ghost use Rattle.log_laws.specs.Records.{IsValid};
+ghost use Rattle.log_laws.specs.Lawful.{IsOnItsWay, AreTablesSquare, AreAllWritten, AreWritesAnswered, IsGoneOfLog, IsAwaited, IsLawful};
 ghost use Rattle.log_laws.specs.Laws.{EachLogIsCausal, HasOneRecordForEachName, AreTablesSound, ArePendingSound, IsGoneHeldByAll};
 
 /// A run followed by an event that may happen is a run.
@@ -62,4 +67,55 @@ pub fn pending_is_sound()
 /// Logs only grow.
 pub fn logs_only_grow()
     ensures { (load : Workload) (events more : List Event) → IsRun load (events ++ more) → (d : ℕ) → (rest : List Record) × (log_of (world_of load (events ++ more)) d ≡ log_of (world_of load events) d ++ rest) }
+{}
+
+/// There is one log, table, set of names and set of positions for each datacentre, and one standing for each session; a
+/// past has an entry for each datacentre, and so has what a record depends on.
+pub fn shapes_are_kept()
+    ensures { (load : Workload) (events : List Event) → FitsWorkload load → IsRun load events → IsShaped (world_of load events) }
+{}
+
+/// No session is further than its plan, and none has seen more than the log of its home has.
+pub fn sessions_are_on_their_way()
+    ensures { (load : Workload) (events : List Event) → FitsWorkload load → IsRun load events → (s : ℕ) → IsOnItsWay (world_of load events) s }
+{}
+
+/// Each table has a row of entries for each datacentre.
+pub fn tables_are_square()
+    ensures { (load : Workload) (events : List Event) → FitsWorkload load → IsRun load events → AreTablesSquare (world_of load events) }
+{}
+
+/// Each record was written by a command of the workload, at the home of its session.
+pub fn records_are_written()
+    ensures { (load : Workload) (events : List Event) → FitsWorkload load → IsRun load events → AreAllWritten (world_of load events) }
+{}
+
+/// A host has as many records as writes that are answered there.
+pub fn records_are_answered_writes()
+    ensures { (load : Workload) (events : List Event) → FitsWorkload load → IsRun load events → AreWritesAnswered (world_of load events) }
+{}
+
+/// A log has at most as many records as the workload has writes, and of each host at most as many as its sessions have.
+pub fn writes_bound_logs()
+    ensures { (load : Workload) (events : List Event) → FitsWorkload load → IsRun load events → (d : ℕ) → (length (log_of (world_of load events) d) ≤ writes_of load.sessions) × ((h : ℕ) → count_of (log_of (world_of load events) d) h ≤ writes_at load.sessions h) }
+{}
+
+/// Each collected position is one of the log.
+pub fn gone_is_of_the_log()
+    ensures { (load : Workload) (events : List Event) → FitsWorkload load → IsRun load events → IsGoneOfLog (world_of load events) }
+{}
+
+/// A name that waits is of another host, which has it.
+pub fn names_wait_elsewhere()
+    ensures { (load : Workload) (events : List Event) → FitsWorkload load → IsRun load events → (d h t : ℕ) → Contains (pending_of (world_of load events) d) (h, t) → IsAwaited (world_of load events) d h t }
+{}
+
+/// Within the limits each record is in the ranges of its wire form.
+pub fn records_are_valid()
+    ensures { (load : Workload) (events : List Event) → FitsLimits load → IsRun load events → (d : ℕ) → All (IsValid load.dcs) (log_of (world_of load events) d) }
+{}
+
+/// Within the limits every run leaves a lawful world: all of these laws at once.
+pub fn runs_are_lawful()
+    ensures { (load : Workload) (events : List Event) → FitsLimits load → IsRun load events → IsLawful (world_of load events) }
 {}
