@@ -4,13 +4,14 @@ use Rattle.causal_deps.specs.declared.record.Record.{Record}
 use Rattle.causal_deps.specs.Counts.{AreCovered, IsSquare, entry_of}
 use Rattle.causal_deps.specs.Logs.{HasName, IsCausal, count_of, record_at}
 use Rattle.abstract_log.specs.declared.command.Command.TheVariants.{Read}
+use Rattle.abstract_log.specs.declared.command.Workload.{Workload}
 use Rattle.abstract_log.specs.declared.world.World.{World}
 use Rattle.abstract_log.specs.Worlds.{log_of, table_of, gone_of, pending_of, standing_of, plan_of}
 use Rattle.abstract_log.specs.Shapes.{IsShaped}
 use Rattle.abstract_log.specs.Fits.{FitsLimits}
 use Rattle.log_laws.specs.Laws.{HasOneRecordForEachName, IsGoneHeldByAll}
 use Rattle.log_laws.specs.Records.{IsValid, IsWritten}
-use Rattle.log_laws.specs.Writes.{writes_at, answered_at}
+use Rattle.log_laws.specs.Writes.{writes_at, writes_of, answered_at}
 
 -- How far session s is: within its plan, and no further than the log of its home.
 pub record IsOnItsWay (w : World) (s : ℕ) : Type 0 where
@@ -31,6 +32,19 @@ AreAllWritten w = (d : ℕ) → All (IsWritten w.workload) (log_of w d)
 abbrev pub AreWritesAnswered : World → Type 0
 AreWritesAnswered w = (h : ℕ) → count_of (log_of w h) h ≡ answered_at w h
 
+-- every record was written by a command that is answered, so an open write has no record yet
+abbrev pub AreCommandsAnswered : World → Type 0
+AreCommandsAnswered w = (d : ℕ) → All (λ r. r.index ≤ (standing_of w r.session).answered) (log_of w d)
+
+-- a command writes one record: two places of a log with the same session and index are one
+abbrev pub IsOneForEachCommand : World → Type 0
+IsOneForEachCommand w = (d j k : ℕ) (q r : Record) → slice_get (log_of w d) j ≡ Some q → slice_get (log_of w d) k ≡ Some r → q.session ≡ r.session → q.index ≡ r.index → j ≡ k
+
+-- Each log has a record for each write of the workload, and no other.
+pub record AreLogsWhole (load : Workload) (w : World) : Type 0 where
+  pub each : (d h : ℕ) → d < load.dcs → count_of (log_of w d) h ≡ writes_at load.sessions h
+  pub all : (d : ℕ) → d < load.dcs → length (log_of w d) ≡ writes_of load.sessions
+
 -- each collected position is one of the log
 abbrev pub IsGoneOfLog : World → Type 0
 IsGoneOfLog w = (d p : ℕ) → Contains (gone_of w d) p → (r : Record) × (record_at (log_of w d) p ≡ Some r)
@@ -49,6 +63,8 @@ pub record IsLawful (w : World) : Type 0 where
   pub one_record : HasOneRecordForEachName w
   pub valid : (d : ℕ) → All (IsValid w.workload.dcs) (log_of w d)
   pub written : AreAllWritten w
+  pub done : AreCommandsAnswered w
+  pub once : IsOneForEachCommand w
   pub answered : AreWritesAnswered w
   pub numbers : (d h : ℕ) → count_of (log_of w d) h ≤ writes_at w.workload.sessions h
   pub few : (d : ℕ) → length (log_of w d) ≤ 16384
