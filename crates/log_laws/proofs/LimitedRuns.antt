@@ -19,7 +19,7 @@ use Rattle.abstract_log.specs.Fits.{FitsLimits}
 use Rattle.abstract_log.proofs.ShapesLemmas.{shaped_at_start, shape_kept}
 use Rattle.log_laws.specs.Records.{IsValid, IsWritten}
 use Rattle.log_laws.specs.Writes.{sum_below, writes_in, writes_at, writes_of, answered_by, answered_at}
-use Rattle.log_laws.specs.Lawful.{AreTablesSquare, AreAllWritten, AreCommandsAnswered, IsOneForEachCommand, AreWritesAnswered, IsGoneOfLog, IsAwaited, IsLawful}
+use Rattle.log_laws.specs.Lawful.{AreTablesSquare, AreAllWritten, AreCommandsAnswered, HasRecordsOfAnswered, IsOneForEachCommand, AreWritesAnswered, IsGoneOfLog, IsAwaited, IsLawful}
 use Rattle.log_laws.proofs.Runs.{kept_by_runs}
 use Rattle.log_laws.proofs.LawsLemmas.{workload-after}
 use Rattle.log_laws.proofs.PendingLemmas.{IsSteady, steady_at_start, steady_kept, host_has}
@@ -31,6 +31,7 @@ use Rattle.log_laws.proofs.TableShapes.{square_at_start, square_kept}
 use Rattle.log_laws.proofs.WrittenLemmas.{none_written, written_kept}
 use Rattle.log_laws.proofs.AnsweredLemmas.{none_answered, answered_kept, added_from_elsewhere}
 use Rattle.log_laws.proofs.OnceLemmas.{IsOnceAtHome, none_done, done_kept, none_twice, once_kept, one_for_each_command}
+use Rattle.log_laws.proofs.PresentLemmas.{none_present, present_kept}
 use Rattle.log_laws.proofs.ValidRecords.{valid_record, command_fits}
 
 -- what every event keeps
@@ -42,6 +43,7 @@ pub record IsKept (w : World) : Type 0 where
   pub written : AreAllWritten w
   pub done : AreCommandsAnswered w
   pub once : IsOnceAtHome w
+  pub present : HasRecordsOfAnswered w
   pub answered : AreWritesAnswered w
 
 kept_at_start : (load : Workload) → FitsWorkload load → IsKept (start load)
@@ -53,6 +55,7 @@ kept_at_start load fits = record {
   written = none_written load;
   done = none_done load;
   once = none_twice load;
+  present = none_present load;
   answered = none_answered load;
 }
 
@@ -65,6 +68,7 @@ all_kept w e h can = record {
   written = written_kept w e h.shape h.written can;
   done = done_kept w e h.shape h.done can;
   once = once_kept w e h.shape h.steady.lawful.causal h.steady.pending h.done h.once can;
+  present = present_kept w e h.shape h.steady.lawful.causal h.present can;
   answered = answered_kept w e h.shape h.steady.lawful.causal h.steady.pending h.answered can;
 }
 
@@ -164,6 +168,7 @@ module _ (w : World) (h : IsKept w) where
       valid = valid_logs;
       written = h.written;
       done = h.done;
+      present = h.present;
       once = one_record_each;
       answered = h.answered;
       numbers = numbers_few;

@@ -11,7 +11,7 @@ ghost use Rattle.abstract_log.specs.Shapes.{FitsWorkload, IsShaped};
 ghost use Rattle.abstract_log.specs.Fits.{FitsLimits};
 ghost use Rattle.log_laws.specs.Writes.{writes_at, writes_of};
 ghost use Rattle.log_laws.specs.Records.{IsValid};
-ghost use Rattle.log_laws.specs.Lawful.{IsOnItsWay, AreTablesSquare, AreAllWritten, AreCommandsAnswered, IsOneForEachCommand, AreWritesAnswered, AreLogsWhole, IsGoneOfLog, IsAwaited, IsLawful};
+ghost use Rattle.log_laws.specs.Lawful.{IsOnItsWay, AreTablesSquare, AreAllWritten, AreCommandsAnswered, HasRecordsOfAnswered, IsOneForEachCommand, AreWritesAnswered, AreLogsWhole, IsGoneOfLog, IsAwaited, IsLawful};
 ghost use Rattle.log_laws.specs.Laws.{EachLogIsCausal, HasOneRecordForEachName, AreTablesSound, ArePendingSound, IsGoneHeldByAll};
 
 /// A run followed by an event that may happen is a run.
@@ -110,7 +110,12 @@ pub fn writes_bound_logs()
     ensures { (load : Workload) (events : List Event) → FitsWorkload load → IsRun load events → (d : ℕ) → (length (log_of (world_of load events) d) ≤ writes_of load.sessions) × ((h : ℕ) → count_of (log_of (world_of load events) d) h ≤ writes_at load.sessions h) }
 {}
 
-/// When all is finished, each log has a record for each write of the workload, and no other.
+/// Each write that is answered has its record in the log of its home.
+pub fn answered_writes_have_records()
+    ensures { (load : Workload) (events : List Event) → FitsWorkload load → IsRun load events → HasRecordsOfAnswered (world_of load events) }
+{}
+
+/// When all is finished, each log has a record of each write of the workload, and as many records as there are writes.
 pub fn finished_logs_are_whole()
     ensures { (load : Workload) (events : List Event) → FitsWorkload load → IsRun load events → IsFinished (world_of load events) → AreLogsWhole load (world_of load events) }
 {}
