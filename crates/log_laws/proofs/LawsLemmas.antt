@@ -196,7 +196,7 @@ held w d p e r causal one sound within is can =
     Contains-slice_get (log_of w e) there.0 r (there.1 ∙ ap (λ x. Some x) same)
 
 -- what a log has it keeps
-Contains-grows : (w : World) (e : Event) (d : ℕ) (r : Record) → Grows w e d → Contains (log_of w d) r → Contains (log_of (after w e) d) r
+pub Contains-grows : (w : World) (e : Event) (d : ℕ) (r : Record) → Grows w e d → Contains (log_of w d) r → Contains (log_of (after w e) d) r
 Contains-grows w e d r (inl same) has = let P : List Record → Type 0 = λ xs. Contains xs r in subst P (sym same) has
 Contains-grows w e d r (inr (q, g)) has = let P : List Record → Type 0 = λ xs. Contains xs r in subst P (sym g.last) (Contains-append_left (log_of w d) (q ∷ []) r has)
 

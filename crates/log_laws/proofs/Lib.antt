@@ -10,5 +10,8 @@ pub mod SessionsLemmas
 pub mod TableShapes
 pub mod WrittenLemmas
 pub mod AnsweredLemmas
+pub mod OnceLemmas
+pub mod PresentLemmas
 pub mod ValidRecords
 pub mod LimitedRuns
+pub mod FinishedLogs

@@ -19,7 +19,7 @@ use Rattle.abstract_log.specs.Fits.{FitsLimits}
 use Rattle.abstract_log.proofs.ShapesLemmas.{shaped_at_start, shape_kept}
 use Rattle.log_laws.specs.Records.{IsValid, IsWritten}
 use Rattle.log_laws.specs.Writes.{sum_below, writes_in, writes_at, writes_of, answered_by, answered_at}
-use Rattle.log_laws.specs.Lawful.{AreTablesSquare, AreAllWritten, AreWritesAnswered, IsGoneOfLog, IsAwaited, IsLawful}
+use Rattle.log_laws.specs.Lawful.{AreTablesSquare, AreAllWritten, AreCommandsAnswered, HasRecordsOfAnswered, IsOneForEachCommand, AreWritesAnswered, IsGoneOfLog, IsAwaited, IsLawful}
 use Rattle.log_laws.proofs.Runs.{kept_by_runs}
 use Rattle.log_laws.proofs.LawsLemmas.{workload-after}
 use Rattle.log_laws.proofs.PendingLemmas.{IsSteady, steady_at_start, steady_kept, host_has}
@@ -30,6 +30,8 @@ use Rattle.log_laws.proofs.SessionsLemmas.{AreWithin, first_within, within_kept,
 use Rattle.log_laws.proofs.TableShapes.{square_at_start, square_kept}
 use Rattle.log_laws.proofs.WrittenLemmas.{none_written, written_kept}
 use Rattle.log_laws.proofs.AnsweredLemmas.{none_answered, answered_kept, added_from_elsewhere}
+use Rattle.log_laws.proofs.OnceLemmas.{IsOnceAtHome, none_done, done_kept, none_twice, once_kept, one_for_each_command}
+use Rattle.log_laws.proofs.PresentLemmas.{none_present, present_kept}
 use Rattle.log_laws.proofs.ValidRecords.{valid_record, command_fits}
 
 -- what every event keeps
@@ -39,6 +41,9 @@ pub record IsKept (w : World) : Type 0 where
   pub square : AreTablesSquare w
   pub within : AreWithin w
   pub written : AreAllWritten w
+  pub done : AreCommandsAnswered w
+  pub once : IsOnceAtHome w
+  pub present : HasRecordsOfAnswered w
   pub answered : AreWritesAnswered w
 
 kept_at_start : (load : Workload) → FitsWorkload load → IsKept (start load)
@@ -48,6 +53,9 @@ kept_at_start load fits = record {
   square = square_at_start load;
   within = first_within load;
   written = none_written load;
+  done = none_done load;
+  once = none_twice load;
+  present = none_present load;
   answered = none_answered load;
 }
 
@@ -58,6 +66,9 @@ all_kept w e h can = record {
   square = square_kept w e h.square can;
   within = within_kept w e h.shape h.steady.lawful.causal h.within can;
   written = written_kept w e h.shape h.written can;
+  done = done_kept w e h.shape h.done can;
+  once = once_kept w e h.shape h.steady.lawful.causal h.steady.pending h.done h.once can;
+  present = present_kept w e h.shape h.steady.lawful.causal h.present can;
   answered = answered_kept w e h.shape h.steady.lawful.causal h.steady.pending h.answered can;
 }
 
@@ -114,6 +125,9 @@ module _ (w : World) (h : IsKept w) where
   host_count : (d g : ℕ) → count_of (log_of w d) g ≤ length (log_of w d)
   host_count d g = omega (arith, length-filter (is_of g) (log_of w d), count_by-le-length (is_of g) (log_of w d))
 
+  pub one_record_each : IsOneForEachCommand w
+  one_record_each = one_for_each_command w h.steady.lawful.causal h.steady.lawful.one_record h.written h.once
+
   pub gone_of_log : IsGoneOfLog w
   gone_of_log d p gone = let there = h.steady.lawful.gone d p 0 gone (omega (arith, h.shape.workload.some)) in (there.0, there.1)
 
@@ -153,6 +167,9 @@ module _ (w : World) (h : IsKept w) where
       one_record = h.steady.lawful.one_record;
       valid = valid_logs;
       written = h.written;
+      done = h.done;
+      present = h.present;
+      once = one_record_each;
       answered = h.answered;
       numbers = numbers_few;
       few = few_positions;

@@ -1,13 +1,13 @@
 -- How many writes there are at most, and how many records of which host a log has.
-use Rattle.std.proofs.Common.{◌≡◌, ◌≢◌, ℕ, zero, suc, ◌+◌, ◌<◌, ◌≤◌, ◌==◌, if◌then◌else◌, cond, List, [], ◌∷◌, length, take, get_or, refl, ap, sym, arith, eq-eqb, ne_eqb, All}
-use Rattle.std.proofs.lemmas.Bool.{cond-false, cond_both}
+use Rattle.std.proofs.Common.{◌≡◌, ◌≢◌, ℕ, zero, suc, ◌+◌, ◌<◌, ◌≤◌, ◌==◌, if◌then◌else◌, cond, List, [], ◌∷◌, length, take, get_or, refl, ap, sym, arith, eq-eqb, ne_eqb, All, ◌∙◌}
+use Rattle.std.proofs.lemmas.Bool.{cond-true, cond-false, cond_both}
 use Rattle.std.proofs.lemmas.List.Sums.{sum_by-cons, count_by-le-length, sum_by-take-le}
 use Rattle.std.proofs.lemmas.List.Elements.{All-head, All-tail}
 use Rattle.causal_deps.specs.declared.record.Record.{Record}
 use Rattle.causal_deps.specs.Logs.{count_of, records_of}
 use Rattle.abstract_log.specs.declared.command.Command.{Command}
 use Rattle.abstract_log.specs.declared.command.SessionPlan.{SessionPlan}
-use Rattle.abstract_log.specs.Commands.{is_write}
+use Rattle.abstract_log.specs.Commands.{is_write, no_plan}
 use Rattle.abstract_log.specs.Fits.{commands_of}
 use Rattle.log_laws.specs.Writes.{sum_below, writes_in, writes_at, writes_of}
 use Rattle.log_laws.proofs.Sums.{sum_below-same, sum_below-add, sum_below-zero, sum_below-one, sum_below-alone}
@@ -30,6 +30,26 @@ homes_together (p ∷ ps) n =
     let split : sum_below (writes_at (p ∷ ps)) n ≡ sum_below (λ h. at_home p h + writes_at ps h) n =
     sum_below-same (writes_at (p ∷ ps)) (λ h. at_home p h + writes_at ps h) n (λ h _. sum_by-cons (λ (plan : SessionPlan). at_home plan h) p ps) in
     omega (arith, first, split, sum_below-add (at_home p) (writes_at ps) n, homes_together ps n, sum_by-cons (λ (plan : SessionPlan). writes_in plan.commands) p ps)
+
+-- they are all, where each plan has its home among those
+pub homes_whole : (plans : List SessionPlan) (n : ℕ) → ((s : ℕ) → s < length plans → (get_or plans s no_plan).home < n) → sum_below (writes_at plans) n ≡ writes_of plans
+homes_whole [] n homes = sum_below-zero (writes_at []) n (λ i _. refl)
+homes_whole (p ∷ ps) n homes =
+    let none : ℕ → ℕ = λ _. 0 in
+    let first : sum_below (at_home p) n ≡ sum_below none n + writes_in p.commands =
+    sum_below-one none (at_home p) n p.home (writes_in p.commands) (homes 0 (omega arith)) (at_another p)
+    (cond-true (p.home == p.home) (writes_in p.commands) 0 (eq-eqb p.home p.home refl) ∙ omega arith) in
+    let split : sum_below (writes_at (p ∷ ps)) n ≡ sum_below (λ h. at_home p h + writes_at ps h) n =
+    sum_below-same (writes_at (p ∷ ps)) (λ h. at_home p h + writes_at ps h) n (λ h _. sum_by-cons (λ (plan : SessionPlan). at_home plan h) p ps) in
+    omega (
+      arith,
+      first,
+      split,
+      sum_below-zero none n (λ i _. refl),
+      sum_below-add (at_home p) (writes_at ps) n,
+      homes_whole ps n (λ s there. homes (suc s) (omega arith)),
+      sum_by-cons (λ (plan : SessionPlan). writes_in plan.commands) p ps,
+    )
 
 -- there are at most as many writes as commands
 pub writes_are_commands : (plans : List SessionPlan) → writes_of plans ≤ commands_of plans

@@ -6,12 +6,12 @@ ghost use Rattle.abstract_log.specs.declared.command.Workload.{Workload};
 ghost use Rattle.abstract_log.specs.declared.event.Event.{Event};
 ghost use Rattle.abstract_log.specs.Worlds.{log_of, pending_of};
 ghost use Rattle.abstract_log.specs.Steps.{CanHappen};
-ghost use Rattle.abstract_log.specs.Runs.{IsRun, world_of};
+ghost use Rattle.abstract_log.specs.Runs.{IsRun, IsFinished, world_of};
 ghost use Rattle.abstract_log.specs.Shapes.{FitsWorkload, IsShaped};
 ghost use Rattle.abstract_log.specs.Fits.{FitsLimits};
 ghost use Rattle.log_laws.specs.Writes.{writes_at, writes_of};
 ghost use Rattle.log_laws.specs.Records.{IsValid};
-ghost use Rattle.log_laws.specs.Lawful.{IsOnItsWay, AreTablesSquare, AreAllWritten, AreWritesAnswered, IsGoneOfLog, IsAwaited, IsLawful};
+ghost use Rattle.log_laws.specs.Lawful.{IsOnItsWay, AreTablesSquare, AreAllWritten, AreCommandsAnswered, HasRecordsOfAnswered, IsOneForEachCommand, AreWritesAnswered, AreLogsWhole, IsGoneOfLog, IsAwaited, IsLawful};
 ghost use Rattle.log_laws.specs.Laws.{EachLogIsCausal, HasOneRecordForEachName, AreTablesSound, ArePendingSound, IsGoneHeldByAll};
 
 /// A run followed by an event that may happen is a run.
@@ -90,6 +90,16 @@ pub fn records_are_written()
     ensures { (load : Workload) (events : List Event) → FitsWorkload load → IsRun load events → AreAllWritten (world_of load events) }
 {}
 
+/// An open write has no record yet: each record's command is answered.
+pub fn records_are_of_answered_commands()
+    ensures { (load : Workload) (events : List Event) → FitsWorkload load → IsRun load events → AreCommandsAnswered (world_of load events) }
+{}
+
+/// A command writes one record: two places of a log with the same session and index are one.
+pub fn commands_write_once()
+    ensures { (load : Workload) (events : List Event) → FitsWorkload load → IsRun load events → IsOneForEachCommand (world_of load events) }
+{}
+
 /// A host has as many records as writes that are answered there.
 pub fn records_are_answered_writes()
     ensures { (load : Workload) (events : List Event) → FitsWorkload load → IsRun load events → AreWritesAnswered (world_of load events) }
@@ -98,6 +108,16 @@ pub fn records_are_answered_writes()
 /// A log has at most as many records as the workload has writes, and of each host at most as many as its sessions have.
 pub fn writes_bound_logs()
     ensures { (load : Workload) (events : List Event) → FitsWorkload load → IsRun load events → (d : ℕ) → (length (log_of (world_of load events) d) ≤ writes_of load.sessions) × ((h : ℕ) → count_of (log_of (world_of load events) d) h ≤ writes_at load.sessions h) }
+{}
+
+/// Each write that is answered has its record in the log of its home.
+pub fn answered_writes_have_records()
+    ensures { (load : Workload) (events : List Event) → FitsWorkload load → IsRun load events → HasRecordsOfAnswered (world_of load events) }
+{}
+
+/// When all is finished, each log has a record of each write of the workload, and as many records as there are writes.
+pub fn finished_logs_are_whole()
+    ensures { (load : Workload) (events : List Event) → FitsWorkload load → IsRun load events → IsFinished (world_of load events) → AreLogsWhole load (world_of load events) }
 {}
 
 /// Each collected position is one of the log.
