@@ -2,5 +2,6 @@ pub mod ShareLemmas
 pub mod Tests
 pub mod Reached
 pub mod FilterLemmas
+pub mod HeldLemmas
 pub mod Running
 pub mod LawsLemmas

@@ -14,6 +14,7 @@
 
 mod champions;
 mod filter;
+mod held;
 mod laws;
 
 pub use champions::{Champions, Share};
