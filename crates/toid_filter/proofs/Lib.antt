@@ -5,3 +5,4 @@ pub mod FilterLemmas
 pub mod HeldLemmas
 pub mod Running
 pub mod LawsLemmas
+pub mod SumLemmas

@@ -1,3 +1,4 @@
 pub mod Champions
 pub mod Filters
 pub mod Laws
+pub mod Sums
