@@ -6,3 +6,4 @@ pub mod HeldLemmas
 pub mod Running
 pub mod LawsLemmas
 pub mod SumLemmas
+pub mod MarkLemmas

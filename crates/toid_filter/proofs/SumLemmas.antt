@@ -1,7 +1,7 @@
 -- What filters have, by any measure of items, and what holds of each item, where they take and pass records.
-use Rattle.std.proofs.Common.{◌≡◌, ℕ, ◌+◌, ◌<◌, ◌≤◌, Bool, true, false, cond, not, List, [], ◌∷◌, ◌++◌, length, map, filter, get_or, set, refl, ap, sym, ◌∙◌, subst, inl, inr, arith, Contains}
-use Rattle.std.specs.List.{All, count_by, sum_by, flat_map}
-use Rattle.std.proofs.lemmas.Bool.{cases_Bool, cond-true, or_cases, false_from_ne_true}
+use Rattle.std.proofs.Common.{◌≡◌, ◌⊎◌, ℕ, ◌+◌, ◌<◌, ◌≤◌, Bool, true, false, cond, not, List, [], ◌∷◌, ◌++◌, length, map, filter, get_or, set, refl, ap, sym, ◌∙◌, subst, inl, inr, arith, Option, Contains}
+use Rattle.std.specs.List.{All, sum_by, flat_map}
+use Rattle.std.proofs.lemmas.Bool.{cond-true, or_cases}
 use Rattle.std.proofs.lemmas.List.{length-map, get_or-map}
 use Rattle.std.proofs.lemmas.List.Elements.{All-nil, All-cons, All-head, All-tail, All-append, All-push, All-filter, All-map, All-set, Contains-get_or, Contains-append_left, Contains-append_right}
 use Rattle.std.proofs.lemmas.List.Sums.{sum_by-cons, sum_by-append, sum_by_push, sum_by-set}
@@ -10,13 +10,15 @@ use Rattle.causal_deps.specs.declared.record.Draft.{Draft}
 use Rattle.causal_deps.specs.declared.record.Item.{Item}
 use Rattle.causal_deps.specs.declared.record.Item.TheVariants.{Local, External}
 use Rattle.causal_deps.proofs.Lists.{Contains-here}
+use Rattle.toid_filter.specs.declared.champions.Share.{Share}
 use Rattle.toid_filter.specs.declared.filter.Verdict.{Verdict}
 use Rattle.toid_filter.specs.declared.filter.Verdict.TheVariants.{Passed, Held, Dropped}
-use Rattle.toid_filter.specs.Filters.{FilterState, no_filter, filter_at, has_name, is_passed, is_held, is_known, times_passed, times_held, is_due, due, not_due, released, stands_before, before_name, from_name, with_held, with_record, with_item, IsTaken, Fits, IsTidy, IsSteady}
+use Rattle.toid_filter.specs.Champions.{champion}
+use Rattle.toid_filter.specs.Filters.{FilterState, Announcement, no_filter, filter_at, is_passed, is_held, is_known, is_free, times_passed, times_held, is_due, due, released, stands_before, before_name, from_name, with_held, with_record, with_item, IsTaken, Fits, IsTidy, IsSteady, AreSound}
 use Rattle.toid_filter.specs.Sums.{is_named, items_of, in_held, in_out, passed, added_by, LosesNothing}
 use Rattle.toid_filter.proofs.Tests.{name_from}
-use Rattle.toid_filter.proofs.FilterLemmas.{held_parts, tidy_with}
-use Rattle.toid_filter.proofs.LawsLemmas.{release_passes, count_some}
+use Rattle.toid_filter.proofs.FilterLemmas.{held_parts, tidy_with, taken_steady, steady_out}
+use Rattle.toid_filter.proofs.LawsLemmas.{release_passes, count_some, sound_set, take_sound}
 
 pub sum_by-split : (g : Record → ℕ) (test : Record → Bool) (rs : List Record) → sum_by g (filter test rs) + sum_by g (filter (λ r. not (test r)) rs) ≡ sum_by g rs
 sum_by-split g test [] = refl
@@ -113,7 +115,7 @@ held_among f more = λ k d within. Contains-append_left (items_of f) more (Exter
 pub out_among : (f : FilterState) (more : List Item) → All (Contains (items_of f ++ more)) f.out
 out_among f more = λ k d within. Contains-append_left (items_of f) more (get_or f.out k d) (Contains-append_right (map External f.held) f.out (get_or f.out k d) (Contains-get_or f.out k d within))
 
-all_items : (P : Item → Type 0) (g : FilterState) (given : List Record) → All (λ r. P (External r)) g.held → All P g.out → All (λ r. P (External r)) given → All P (items_of g ++ map External given)
+pub all_items : (P : Item → Type 0) (g : FilterState) (given : List Record) → All (λ r. P (External r)) g.held → All P g.out → All (λ r. P (External r)) given → All P (items_of g ++ map External given)
 all_items P g given held out gone = All-append P (items_of g) (map External given) (All-append P (map External g.held) g.out (All-map P External g.held held) out) (All-map P External given gone)
 
 -- taking a record loses nothing
@@ -125,6 +127,17 @@ take_loses_nothing f r v g steady fits took =
       sums = λ m. omega (arith, all.sums m);
       passing = all.passing;
       each = all_items (Contains known) g [] all.held all.out (All-nil (λ (y : Record). Contains known (External y)));
+    }
+
+-- nor does a draft
+pub draft_loses_nothing : (f : FilterState) (draft : Draft) → LosesNothing f (λ m. m (Local draft)) [] (items_of f ++ Local draft ∷ []) (with_item f (Local draft))
+draft_loses_nothing f draft =
+    let known : List Item = items_of f ++ Local draft ∷ [] in
+    let here : Contains known (Local draft) = Contains-append_right (items_of f) (Local draft ∷ []) (Local draft) (Contains-here (Local draft) []) in
+    let all = draft_takes f draft (Contains known) (held_among f (Local draft ∷ [])) (out_among f (Local draft ∷ [])) here in record {
+      sums = λ m. omega (arith, all.sums m);
+      passing = all.passing;
+      each = all_items (Contains known) (with_item f (Local draft)) [] all.held all.out (All-nil (λ (y : Record). Contains known (External y)));
     }
 
 -- One filter among all took something in.
@@ -189,3 +202,46 @@ module _ (P : Item → Type 0) (k : FilterState → FilterState) (gives : Filter
     All-map (λ (f : FilterState). All (λ r. P (External r)) f.held) k fs (λ i f low. (all i f low).held),
     All-map (λ (f : FilterState). All P f.out) k fs (λ i f low. (all i f low).out),
   )
+
+-- Every record has a verdict.
+pub record_verdict : (f : FilterState) (r : Record) → (v : Verdict) × IsTaken f r v (with_record f r)
+record_verdict f r = elim (is_known f r.host r.toid) as (λ b. is_known f r.host r.toid ≡ b → (v : Verdict) × IsTaken f r v (cond b f (cond (is_free f r) (released (with_held f r)) (with_held f r)))) [
+  | true ↦ λ known. (Dropped, (known, refl))
+  | false ↦ λ new. elim (is_free f r) as (λ b. is_free f r ≡ b → (v : Verdict) × IsTaken f r v (cond b (released (with_held f r)) (with_held f r))) [
+    | true ↦ λ free. (Passed, (new, free, refl))
+    | false ↦ λ unfree. (Held, (new, unfree, refl))
+  ] refl
+] refl
+
+-- a record is known and changes nothing, or the filter has it then
+pub record_takes : (f : FilterState) (r : Record) (P : Item → Type 0) → IsSteady f → Fits f r → All (λ y. P (External y)) f.held → All P f.out → P (External r)
+    → ((is_known f r.host r.toid ≡ true) × (with_record f r ≡ f)) ⊎ (IsSteady (with_record f r) × HasTaken f (λ g. g (External r)) P (with_record f r))
+record_takes f r P steady fits held out here = by_verdict (record_verdict f r).0 (record_verdict f r).1
+  where
+    by_verdict : (v : Verdict) → IsTaken f r v (with_record f r) → ((is_known f r.host r.toid ≡ true) × (with_record f r ≡ f)) ⊎ (IsSteady (with_record f r) × HasTaken f (λ g. g (External r)) P (with_record f r))
+    by_verdict Dropped took = inl took
+    by_verdict Held took = inr (taken_steady f r Held (with_record f r) steady fits took, verdict_takes f r Held (with_record f r) P steady fits took held out here)
+    by_verdict Passed took = inr (taken_steady f r Passed (with_record f r) steady fits took, verdict_takes f r Passed (with_record f r) P steady fits took held out here)
+
+-- All filters stay sound when one of them is given an item, or hands out what it passed on.
+module _ (m : List (List Share)) (a : Option Announcement) (fs : List FilterState) (sound : AreSound m a fs) where
+  pub out_sound : (i : ℕ) → i < length fs → (items : List Item) → AreSound m a (set fs i (record (filter_at fs i) { out = items }))
+  out_sound i low items = sound_set m a fs i (record (filter_at fs i) { out = items }) (steady_out (filter_at fs i) items (sound.each i no_filter low)) (sound.numbers i low) (sound.one_map i no_filter low) refl low sound
+
+  pub draft_sound : (i : ℕ) → i < length fs → (draft : Draft) → AreSound m a (set fs i (with_item (filter_at fs i) (Local draft)))
+  draft_sound i low draft = out_sound i low ((filter_at fs i).out ++ Local draft ∷ [])
+
+  -- a record fits its champion
+  pub champion_fits : (r : Record) → r.host < length m → 1 ≤ r.toid → Fits (filter_at fs (champion m r.host r.toid)) r
+  champion_fits r host first =
+      let low : champion m r.host r.toid < length fs = sound.there r.host r.toid in
+      let one_map = sound.one_map (champion m r.host r.toid) no_filter low in record {
+        host = omega (arith, host, ap (length {A = List Share}) one_map);
+        first = first;
+        own = ap (λ x. champion x r.host r.toid) one_map ∙ sym (sound.numbers (champion m r.host r.toid) low);
+      }
+
+  pub record_sound : (r : Record) → r.host < length m → 1 ≤ r.toid → AreSound m a (set fs (champion m r.host r.toid) (with_item (filter_at fs (champion m r.host r.toid)) (External r)))
+  record_sound r host first =
+      let verdict = record_verdict (filter_at fs (champion m r.host r.toid)) r in
+      take_sound m a fs r verdict.0 (with_record (filter_at fs (champion m r.host r.toid)) r) sound (champion_fits r host first) verdict.1

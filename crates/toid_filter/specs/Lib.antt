@@ -2,3 +2,4 @@ pub mod Champions
 pub mod Filters
 pub mod Laws
 pub mod Sums
+pub mod Marks
