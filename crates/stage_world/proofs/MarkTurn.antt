@@ -1,5 +1,5 @@
 -- The turns by which one filter more comes to serve a host keep what the stages stand for.
-use Rattle.std.proofs.Common.{◌≡◌, ◌⊎◌, ℕ, ◌+◌, ◌<◌, ◌≤◌, true, false, cond, leb, ltb, List, [], ◌∷◌, ◌++◌, length, map, get_or, set, refl, ap, sym, ◌∙◌, subst, inl, inr, arith, Option, Some, None}
+use Rattle.std.proofs.Common.{◌≡◌, ℕ, ◌+◌, ◌<◌, ◌≤◌, false, cond, leb, ltb, List, [], ◌∷◌, ◌++◌, length, map, get_or, set, refl, ap, ◌∙◌, subst, inl, inr, arith, Option, Some, None}
 use Rattle.std.specs.List.{All, sum_by, fold, flat_map}
 use Rattle.std.specs.Option.{option_map_or}
 use Rattle.std.proofs.lemmas.List.{length-set, length-map, length_push, get_or_push, set_at}
@@ -16,16 +16,16 @@ use Rattle.abstract_log.specs.Fits.{IsSize}
 use Rattle.toid_filter.specs.declared.champions.Share.{Share}
 use Rattle.toid_filter.specs.Champions.{grown, last_share, last_of_shares, sole_share}
 use Rattle.toid_filter.specs.Filters.{FilterState, Announcement, no_filter, new_filter, filter_at, times_passed, is_past, cancelled, activated, handed_out, AreSound}
-use Rattle.toid_filter.specs.Marks.{mark_of, asked_next, accepted_next, grown_by, filters_grown}
-use Rattle.toid_filter.proofs.SumLemmas.{HasKept, AllKeep, kept_sums, kept_passing, kept_held, sum_by-map_external}
-use Rattle.toid_filter.proofs.MarkLemmas.{IsCancelled, cancels, accepted_sound, cancelled_sound, shares_of, IsActivated, All-handed, all_activated, grown_sound, grown_sums, grown_passed, grown_held, grown_out}
-use Rattle.stage_world.specs.Stages.{Datacentre, in_batchers, in_held, in_out, is_named}
-use Rattle.stage_world.specs.Turns.{Turned, quiet, taken_by}
+use Rattle.toid_filter.specs.Marks.{mark_of, asked_next, grown_by, filters_grown}
+use Rattle.toid_filter.proofs.SumLemmas.{AllKeep, kept_sums, kept_passing, kept_held, sum_by-map_external}
+use Rattle.toid_filter.proofs.MarkLemmas.{cancels, accepted_sound, cancelled_sound, shares_of, All-handed, all_activated, grown_sound, grown_sums, grown_passed, grown_held, grown_out}
+use Rattle.stage_world.specs.Stages.{Datacentre, in_batchers, is_named}
+use Rattle.stage_world.specs.Turns.{quiet, taken_by}
 use Rattle.stage_world.specs.MarkTurns.{announced, announce_idle, announce_turn, cancel_all, accept_next, activate_all, ask_next, mark_turn}
-use Rattle.stage_world.specs.StandsFor.{StandsAt, AreUnderWay, IsDue, passed}
+use Rattle.stage_world.specs.StandsFor.{StandsAt, AreUnderWay, IsDue}
 use Rattle.stage_world.proofs.ListLemmas.{All-set_at, sum_by-set_same}
 use Rattle.stage_world.proofs.AnnounceTurn.{announce_keeps}
-use Rattle.stage_world.proofs.FlushTurn.{AreReady, all_taken_keep, length-taken, under_way_by_sums, stands_with}
+use Rattle.stage_world.proofs.FlushTurn.{all_taken_keep, length-taken, under_way_by_sums, stands_with}
 
 -- belongs to toid_filter: where fewer than 16 filters serve a host, the grown map has at most 16 for it
 last_of_shares-push : (f : Share) (xs : List Share) (n : Share) → last_of_shares f (xs ++ n ∷ []) ≡ n
