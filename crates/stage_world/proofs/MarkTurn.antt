@@ -3,13 +3,14 @@ use Rattle.std.proofs.Common.{◌≡◌, ℕ, ◌+◌, ◌<◌, ◌≤◌, false
 use Rattle.std.specs.List.{All, sum_by, fold, flat_map}
 use Rattle.std.specs.Option.{option_map_or}
 use Rattle.std.proofs.lemmas.List.{length-set, length-map, length_push, get_or_push, set_at}
-use Rattle.std.proofs.lemmas.List.Elements.{All-push}
+use Rattle.std.proofs.lemmas.List.Elements.{All-nil, All-push}
 use Rattle.std.proofs.lemmas.List.Sums.{sum_by_push}
 use Rattle.std.proofs.lemmas.Bool.{cond_both, ltb-true, ltb-false, leb-false}
 use Rattle.causal_deps.specs.declared.record.Record.{Record}
 use Rattle.causal_deps.specs.declared.record.Item.{Item}
 use Rattle.causal_deps.specs.declared.record.Item.TheVariants.{External}
 use Rattle.abstract_log.specs.declared.world.World.{World}
+use Rattle.abstract_log.specs.declared.script.Outcome.{Outcome}
 use Rattle.abstract_log.specs.declared.script.Outcome.TheVariants.{Absent, Announced, Busy, LateStart, Idle, AcceptedBy, LateAt, Active}
 use Rattle.abstract_log.specs.Worlds.{pending_of}
 use Rattle.abstract_log.specs.Fits.{IsSize}
@@ -23,6 +24,7 @@ use Rattle.stage_world.specs.Stages.{Datacentre, in_batchers, is_named}
 use Rattle.stage_world.specs.Turns.{quiet, taken_by}
 use Rattle.stage_world.specs.MarkTurns.{announced, announce_idle, announce_turn, cancel_all, accept_next, activate_all, ask_next, mark_turn}
 use Rattle.stage_world.specs.StandsFor.{StandsAt, AreUnderWay, IsDue}
+use Rattle.stage_world.specs.Whole.{Keeps, place_of}
 use Rattle.stage_world.proofs.ListLemmas.{All-set_at, sum_by-set_same}
 use Rattle.stage_world.proofs.AnnounceTurn.{announce_keeps}
 use Rattle.stage_world.proofs.FlushTurn.{all_taken_keep, length-taken, under_way_by_sums, stands_with}
@@ -154,37 +156,43 @@ module _ (w : World) (d : ℕ) (z : Datacentre) (h : StandsAt w d z) (a : Announ
         (λ g t. refl) h.under_way.due.batchers ready.1.due.held ready.1.due.out ready.1)
         h
 
--- the next filter is asked
-asked_keeps : (w : World) (d : ℕ) (z : Datacentre) (a : Announcement) → z.announcement ≡ Some a → a.next < length z.filters → StandsAt w d z → StandsAt w d (ask_next z a).after
-asked_keeps w d z a is low h =
-    let f : FilterState = filter_at z.filters a.next in
-    cond_both (is_past a.host a.mark f) (quiet (LateAt a.next (get_or f.reached a.host 0)) (cancel_all z)) (quiet (AcceptedBy a.next) (accept_next z a)) (λ turned. StandsAt w d turned.after)
-    (λ past. cancel_keeps w d z h) (λ not_past. accept_keeps w d z h a is low not_past)
+-- a turn without events keeps what its state stands for
+pub quiet_keeps : (w : World) (d : ℕ) (outcome : Outcome) (y : Datacentre) → StandsAt w d y → Keeps w d (quiet outcome y)
+quiet_keeps w d outcome y h = record { can = tt; here = All-nil (λ e. place_of w.workload e ≡ d); stands = h }
 
--- the next step of what is announced
-pub marked_keeps : (w : World) (d : ℕ) (z : Datacentre) (a : Announcement) → z.announcement ≡ Some a → StandsAt w d z
-    → StandsAt w d (cond (ltb a.next (length z.filters)) (ask_next z a) (quiet (Active (last_share (activate_all z a).map a.host).filters) (activate_all z a))).after
-marked_keeps w d z a is h = cond_both (ltb a.next (length z.filters)) (ask_next z a) (quiet (Active (last_share (activate_all z a).map a.host).filters) (activate_all z a)) (λ turned. StandsAt w d turned.after)
-    (λ asks. asked_keeps w d z a is (ltb-true a.next (length z.filters) asks) h) (λ done. activate_keeps w d z h a is (ltb-false a.next (length z.filters) done))
+-- the next filter is asked
+ask_keeps : (w : World) (d : ℕ) (z : Datacentre) (a : Announcement) → z.announcement ≡ Some a → a.next < length z.filters → StandsAt w d z → Keeps w d (ask_next z a)
+ask_keeps w d z a is low h =
+    let f : FilterState = filter_at z.filters a.next in
+    let late : Outcome = LateAt a.next (get_or f.reached a.host 0) in
+    cond_both (is_past a.host a.mark f) (quiet late (cancel_all z)) (quiet (AcceptedBy a.next) (accept_next z a)) (Keeps w d)
+    (λ past. quiet_keeps w d late (cancel_all z) (cancel_keeps w d z h)) (λ not_past. quiet_keeps w d (AcceptedBy a.next) (accept_next z a) (accept_keeps w d z h a is low not_past))
+
+-- what the stages answer when all accepted
+abbrev active : Datacentre → Announcement → Outcome
+active z a = Active (last_share (activate_all z a).map a.host).filters
 
 mark_at : (w : World) (d : ℕ) (z : Datacentre) (o : Option Announcement) → z.announcement ≡ o → StandsAt w d z
-    → StandsAt w d (option_map_or (λ a. cond (ltb a.next (length z.filters)) (ask_next z a) (quiet (Active (last_share (activate_all z a).map a.host).filters) (activate_all z a))) o (quiet Idle z)).after
-mark_at w d z None is h = h
-mark_at w d z (Some a) is h = marked_keeps w d z a is h
+    → Keeps w d (option_map_or (λ a. cond (ltb a.next (length z.filters)) (ask_next z a) (quiet (active z a) (activate_all z a))) o (quiet Idle z))
+mark_at w d z None is h = quiet_keeps w d Idle z h
+mark_at w d z (Some a) is h = cond_both (ltb a.next (length z.filters)) (ask_next z a) (quiet (active z a) (activate_all z a)) (Keeps w d)
+    (λ asks. ask_keeps w d z a is (ltb-true a.next (length z.filters) asks) h)
+    (λ done. quiet_keeps w d (active z a) (activate_all z a) (activate_keeps w d z h a is (ltb-false a.next (length z.filters) done)))
 
--- the turn that takes the next step of the announcement
-pub mark_keeps : (w : World) (d : ℕ) (z : Datacentre) → StandsAt w d z → StandsAt w d (mark_turn z).after
-mark_keeps w d z h = mark_at w d z z.announcement refl h
+-- the turn that takes the next step of an announcement
+pub mark_turn_keeps : (w : World) (d : ℕ) (z : Datacentre) → StandsAt w d z → Keeps w d (mark_turn z)
+mark_turn_keeps w d z h = mark_at w d z z.announcement refl h
 
--- The turn that announces one filter more.
 announce_at : (w : World) (d : ℕ) (z : Datacentre) (g t : ℕ) (o : Option Announcement) → z.announcement ≡ o → g < length z.map → (last_share z.map g).filters < 16 → StandsAt w d z
-    → StandsAt w d (option_map_or (λ a. quiet Busy z) o (announce_idle z g t)).after
-announce_at w d z g t (Some a) is inside room h = h
+    → Keeps w d (option_map_or (λ a. quiet Busy z) o (announce_idle z g t))
+announce_at w d z g t (Some a) is inside room h = quiet_keeps w d Busy z h
 announce_at w d z g t None is inside room h =
-    cond_both (leb t (last_share z.map g).start) (quiet (LateStart (last_share z.map g).start) z) (quiet Announced (announced z g t)) (λ turned. StandsAt w d turned.after)
-    (λ early. h) (λ late. announce_keeps w d z g t is (leb-false t (last_share z.map g).start late) room inside h)
+    let start : ℕ = (last_share z.map g).start in
+    cond_both (leb t start) (quiet (LateStart start) z) (quiet Announced (announced z g t)) (Keeps w d)
+    (λ early. quiet_keeps w d (LateStart start) z h) (λ late. quiet_keeps w d Announced (announced z g t) (announce_keeps w d z g t is (leb-false t start late) room inside h))
 
-pub announce_turn_keeps : (w : World) (d : ℕ) (z : Datacentre) (g t : ℕ) → g < w.workload.dcs → StandsAt w d z → StandsAt w d (announce_turn z g t).after
+-- the turn that announces one filter more
+pub announce_turn_keeps : (w : World) (d : ℕ) (z : Datacentre) (g t : ℕ) → g < w.workload.dcs → StandsAt w d z → Keeps w d (announce_turn z g t)
 announce_turn_keeps w d z g t there h =
-    cond_both (ltb (last_share z.map g).filters 16) (option_map_or (λ a. quiet Busy z) z.announcement (announce_idle z g t)) (quiet Absent z) (λ turned. StandsAt w d turned.after)
-    (λ room. announce_at w d z g t z.announcement refl (omega (arith, h.mapped)) (ltb-true (last_share z.map g).filters 16 room) h) (λ full. h)
+    cond_both (ltb (last_share z.map g).filters 16) (option_map_or (λ a. quiet Busy z) z.announcement (announce_idle z g t)) (quiet Absent z) (Keeps w d)
+    (λ room. announce_at w d z g t z.announcement refl (omega (arith, h.mapped)) (ltb-true (last_share z.map g).filters 16 room) h) (λ full. quiet_keeps w d Absent z h)
