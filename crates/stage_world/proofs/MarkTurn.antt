@@ -20,7 +20,8 @@ use Rattle.toid_filter.specs.Filters.{FilterState, Announcement, no_filter, new_
 use Rattle.toid_filter.specs.Marks.{mark_of, asked_next, grown_by, filters_grown}
 use Rattle.toid_filter.proofs.SumLemmas.{AllKeep, kept_sums, kept_passing, kept_held, sum_by-map_external}
 use Rattle.toid_filter.proofs.MarkLemmas.{cancels, accepted_sound, cancelled_sound, shares_of, All-handed, all_activated, grown_sound, grown_sums, grown_passed, grown_held, grown_out}
-use Rattle.stage_world.specs.Stages.{Datacentre, in_batchers, is_named}
+use Rattle.stage_world.specs.Stages.{Datacentre, in_batchers}
+use Rattle.toid_filter.specs.Sums.{is_named}
 use Rattle.stage_world.specs.Turns.{quiet, taken_by}
 use Rattle.stage_world.specs.MarkTurns.{announced, announce_idle, announce_turn, cancel_all, accept_next, activate_all, ask_next, mark_turn}
 use Rattle.stage_world.specs.StandsFor.{StandsAt, AreUnderWay, IsDue}
