@@ -1,0 +1,4 @@
+pub mod Pieces
+pub mod Reading
+pub mod Linking
+pub mod Joining
