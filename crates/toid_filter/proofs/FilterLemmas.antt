@@ -338,6 +338,11 @@ steady_out f items steady = record {
       true≢false (sym (due_from f q (λ u low. parts.0 u low) parts.1) ∙ All-contains (λ (r : Record). is_due f r ≡ false) f.held q steady.none_due has)));
 }
 
+pub none_reached : (n h : ℕ) → ◌≡◌ {A = ℕ} (get_or (replicate n 0) h 0) 0
+none_reached zero h = refl
+none_reached (suc n) zero = refl
+none_reached (suc n) (suc h) = none_reached n h
+
 -- a filter that passed or holds nothing
 pub new_steady : (number : ℕ) (map : List (List Share)) → IsSteady (new_filter number map)
 new_steady number map = record {
@@ -351,11 +356,6 @@ new_steady number map = record {
   };
   none_due = λ k d within. absurd (omega arith);
 }
-  where
-    none_reached : (n h : ℕ) → ◌≡◌ {A = ℕ} (get_or (replicate n 0) h 0) 0
-    none_reached zero h = refl
-    none_reached (suc n) zero = refl
-    none_reached (suc n) (suc h) = none_reached n h
 
 -- Taking a record keeps it.
 pub taken_steady : (f : FilterState) (r : Record) (v : Verdict) (g : FilterState) → IsSteady f → Fits f r → IsTaken f r v g → IsSteady g

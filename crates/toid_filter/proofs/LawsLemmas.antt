@@ -21,6 +21,13 @@ use Rattle.toid_filter.proofs.Reached.{reached_more, reached_covers}
 use Rattle.toid_filter.proofs.FilterLemmas.{passed_parts, passed_from, held_parts, held_from, own_is, with_has, known_more, tidy_with, passed_known, unpassed_then, taken_steady, steady_sound, new_steady, count_none, count_once}
 use Rattle.toid_filter.proofs.Running.{above_reached}
 
+pub count_some : (h t : ℕ) (xs : List Record) (x : Record) → Contains xs x → has_name h t x ≡ true → 1 ≤ count_by (has_name h t) xs
+count_some h t [] x (k, within, is) named = absurd (omega arith)
+count_some h t (y ∷ xs) x (zero, within, is) named =
+    let here : ◌≡◌ {A = ℕ} (cond (has_name h t y) 1 0) 1 = cond-true (has_name h t y) 1 0 (ap (has_name h t) is ∙ named) in
+    omega (arith, here, sum_by-cons (λ z. cond (has_name h t z) 1 0) y xs)
+count_some h t (y ∷ xs) x (suc k, within, is) named = omega (arith, count_some h t xs x (k, omega arith, is) named, sum_by-cons (λ z. cond (has_name h t z) 1 0) y xs)
+
 -- What passes where all that is due passes.
 module _ (f : FilterState) (tidy : IsTidy f) where
   due_in : (d : Record) → Contains (due f) d → Contains f.held d × (is_due f d ≡ true)
@@ -78,13 +85,6 @@ module _ (f : FilterState) (tidy : IsTidy f) where
               omega (arith, was, now, none)
         ]
   ]
-    where
-      count_some : (h t : ℕ) (xs : List Record) (x : Record) → Contains xs x → has_name h t x ≡ true → 1 ≤ count_by (has_name h t) xs
-      count_some h t [] x (k, within, is) named = absurd (omega arith)
-      count_some h t (y ∷ xs) x (zero, within, is) named =
-          let here : ◌≡◌ {A = ℕ} (cond (has_name h t y) 1 0) 1 = cond-true (has_name h t y) 1 0 (ap (has_name h t) is ∙ named) in
-          omega (arith, here, sum_by-cons (λ z. cond (has_name h t z) 1 0) y xs)
-      count_some h t (y ∷ xs) x (suc k, within, is) named = omega (arith, count_some h t xs x (k, omega arith, is) named, sum_by-cons (λ z. cond (has_name h t z) 1 0) y xs)
 
   known_stays : (h t : ℕ) → is_known f h t ≡ true → is_known (released f) h t ≡ true
   known_stays h t is = elim (or_cases (is_passed f h t) (is_held f h t) is) [
@@ -98,7 +98,7 @@ module _ (f : FilterState) (tidy : IsTidy f) where
   ]
 
   -- what releasing passes
-  release_passes : HasPassed f (released f) (due f)
+  pub release_passes : HasPassed f (released f) (due f)
   release_passes = record {
     out = refl;
     rising = λ i j d before within host. elim (before_parts (get_or (due f) j d).host (get_or (due f) j d).toid (get_or (due f) i d) (due_rising i j d before within)) [
@@ -239,12 +239,12 @@ passed_once map a fs sound h t = sum_once (times_passed h t) (champion map h t) 
     let own = eqb-true (champion (filter_at fs i).map h t) (filter_at fs i).number ((steady_sound (filter_at fs i) (sound.each i no_filter low)).own_passed h t is) in
     apart (omega (arith, own, sound.numbers i low, ap (λ m. champion m h t) (sound.one_map i no_filter low))))))
 
-taken_same : (f g : FilterState) (r : Record) (v : Verdict) → IsTaken f r v g → (g.number ≡ f.number) × (g.map ≡ f.map) × (g.accepted ≡ f.accepted)
+pub taken_same : (f g : FilterState) (r : Record) (v : Verdict) → IsTaken f r v g → (g.number ≡ f.number) × (g.map ≡ f.map) × (g.accepted ≡ f.accepted)
 taken_same f g r Dropped took = (ap (λ (x : FilterState). x.number) took.1, ap (λ (x : FilterState). x.map) took.1, ap (λ (x : FilterState). x.accepted) took.1)
 taken_same f g r Held took = (ap (λ (x : FilterState). x.number) took.2, ap (λ (x : FilterState). x.map) took.2, ap (λ (x : FilterState). x.accepted) took.2)
 taken_same f g r Passed took = (ap (λ (x : FilterState). x.number) took.2, ap (λ (x : FilterState). x.map) took.2, ap (λ (x : FilterState). x.accepted) took.2)
 
-at_set : (P : ℕ → FilterState → Type 0) (fs : List FilterState) (i : ℕ) (x : FilterState) → P i x → ((j : ℕ) → j < length fs → P j (filter_at fs j)) → (j : ℕ) → j < length (set fs i x) → P j (filter_at (set fs i x) j)
+pub at_set : (P : ℕ → FilterState → Type 0) (fs : List FilterState) (i : ℕ) (x : FilterState) → P i x → ((j : ℕ) → j < length fs → P j (filter_at fs j)) → (j : ℕ) → j < length (set fs i x) → P j (filter_at (set fs i x) j)
 at_set P fs i x here all j within =
     let inside : j < length fs = omega (arith, length-set fs i x) in
     elim (cases_eq j i) [
@@ -252,7 +252,7 @@ at_set P fs i x here all j within =
       | inr other ↦ subst (P j) (sym (get_or-set_other fs i j x no_filter other)) (all j inside)
     ]
 
-all_at : (P : FilterState → Type 0) (fs : List FilterState) → ((j : ℕ) → j < length fs → P (filter_at fs j)) → All P fs
+pub all_at : (P : FilterState → Type 0) (fs : List FilterState) → ((j : ℕ) → j < length fs → P (filter_at fs j)) → All P fs
 all_at P fs each = λ k d within. subst P (get_or_default fs k no_filter d within) (each k within)
 
 -- a steady filter in the place of another by the same map, with the same accepted mark
@@ -276,14 +276,14 @@ module _ (map : List (List Share)) (a : Option Announcement) (fs : List FilterSt
   abbrev taker : FilterState
   taker = filter_at fs (champion map r.host r.toid)
 
-  take_sound : Fits taker r → IsTaken taker r v next → AreSound map a (set fs (champion map r.host r.toid) next)
+  pub take_sound : Fits taker r → IsTaken taker r v next → AreSound map a (set fs (champion map r.host r.toid) next)
   take_sound fits took =
       let low : champion map r.host r.toid < length fs = sound.there r.host r.toid in
       let same = taken_same taker next r v took in
       sound_set map a fs (champion map r.host r.toid) next (taken_steady taker r v next (sound.each (champion map r.host r.toid) no_filter low) fits took)
       (same.0 ∙ sound.numbers (champion map r.host r.toid) low) (same.1 ∙ sound.one_map (champion map r.host r.toid) no_filter low) same.2 low sound
 
-  take_passes : Fits taker r → IsTaken taker r v next → ((gained : List Record) × HasPassed taker next gained) × (is_known next r.host r.toid ≡ true)
+  pub take_passes : Fits taker r → IsTaken taker r v next → ((gained : List Record) × HasPassed taker next gained) × (is_known next r.host r.toid ≡ true)
   take_passes fits took = taken_passes taker r v next (sound.each (champion map r.host r.toid) no_filter (sound.there r.host r.toid)) fits took
 
 pub champions_sound : (map : List (List Share)) (a : Option Announcement) (fs gs : List FilterState) (rs : List Record) → AreSound map a fs → AreTakenByChampions map fs rs gs → AreSound map a gs

@@ -2,5 +2,8 @@ pub mod ShareLemmas
 pub mod Tests
 pub mod Reached
 pub mod FilterLemmas
+pub mod HeldLemmas
 pub mod Running
 pub mod LawsLemmas
+pub mod SumLemmas
+pub mod MarkLemmas

@@ -1,80 +1,30 @@
 -- The held records that follow on one that passes, and the filter afterwards.
-use Rattle.std.proofs.Common.{◌≡◌, ◌↔◌, ℕ, zero, suc, ◌+◌, ◌-◌, ◌<◌, ◌≤◌, Bool, true, false, cond, not, ◌&&◌, ◌||◌, List, [], ◌∷◌, ◌++◌, length, map, filter, take, drop, get_or, refl, ap, ap₂, sym, ◌∙◌, subst, inl, inr, arith, add-one, Option, Some, None, slice_get, Contains, append-nil, append_assoc}
-use Rattle.std.specs.List.{All, AllPairs, slice_range, remove_range}
-use Rattle.std.specs.List.Sorted.{IsPartitionPoint, IsPartitionedBy}
-use Rattle.std.specs.Option.{option_map_or}
+use Rattle.std.proofs.Common.{◌≡◌, ◌↔◌, ℕ, zero, suc, ◌+◌, ◌<◌, ◌≤◌, Bool, true, false, cond, not, ◌&&◌, ◌||◌, List, [], ◌∷◌, ◌++◌, length, map, filter, take, drop, get_or, refl, ap, ap₂, sym, ◌∙◌, subst, inl, inr, arith, add-one, Some, None, slice_get, Contains, append-nil, append_assoc}
+use Rattle.std.specs.List.{All, AllPairs}
 use Rattle.std.specs.Bool.{IsTrue}
 use Rattle.std.proofs.Math.Seq.{drop-cons}
-use Rattle.std.proofs.lemmas.Bool.{cases_eq, cases_lt, cases_Bool, or_cases, or_parts, or_left, or_right, not_from_true, not_from_false, true≢false, eq-eqb, eqb-true, false_from_ne_true}
-use Rattle.std.proofs.lemmas.List.{length-drop, length-take-le, get_or-drop, get_or-take, get_or_default, take-append-drop, take_all, drop-drop}
-use Rattle.std.proofs.lemmas.List.Folds.{drop_split}
-use Rattle.std.proofs.lemmas.List.Elements.{All-nil, All-head, All-tail, All-take, All-drop, All-weaker, All-more, All-contains, filter-append, Contains-append_cases, Contains-append_left}
-use Rattle.std.proofs.lemmas.Option.{get_or_from_slice_get}
+use Rattle.std.proofs.lemmas.Bool.{cases_eq, cases_lt, or_cases, or_parts, or_left, or_right, not-true, not_from_true, not_from_false, true≢false, eq-eqb, eqb-true, false_from_ne_true}
+use Rattle.std.proofs.lemmas.List.{length-drop, get_or-drop, take-append-drop, drop-drop}
+use Rattle.std.proofs.lemmas.List.Elements.{All-nil, All-head, All-weaker, All-more, All-contains, filter-append, Contains-append_cases, Contains-append_left}
+use Rattle.std.proofs.lemmas.List.Kept.{AllPairs-filter}
 use Rattle.causal_deps.specs.declared.record.Record.{Record}
 use Rattle.causal_deps.specs.declared.record.Item.{Item}
 use Rattle.causal_deps.specs.declared.record.Item.TheVariants.{External}
 use Rattle.causal_deps.specs.Counts.{raised}
-use Rattle.causal_deps.proofs.Lists.{Contains-slice_get, Contains-cons}
+use Rattle.causal_deps.proofs.Lists.{Contains-cons, Contains-filter}
 use Rattle.toid_filter.specs.declared.filter.Verdict.TheVariants.{Passed, Held}
 use Rattle.toid_filter.specs.Champions.{champion, Serves}
-use Rattle.toid_filter.specs.Filters.{FilterState, owns, is_passed, has_name, is_held, is_known, all_below, is_done, is_met, is_held_back, is_free, is_due, due, not_due, reached_by, stands_before, with_held, IsTaken, Fits, Follows, IsSteady, IsSound}
-use Rattle.toid_filter.proofs.Tests.{all_below_from, settled_gives, settled_from, name_parts, name_from, before_parts, not_before, before_trans, all_from_contains, pairs_parts}
+use Rattle.toid_filter.specs.Filters.{FilterState, owns, is_passed, is_held, is_known, all_below, is_done, is_met, is_held_back, is_free, is_due, due, not_due, reached_by, stands_before, before_name, from_name, named, with_held, IsTaken, Fits, Follows, IsSteady, IsSound}
+use Rattle.toid_filter.proofs.Tests.{all_below_from, settled_gives, settled_from, before_parts, not_before, all_from_contains, pairs_parts}
 use Rattle.toid_filter.proofs.FilterLemmas.{passed_parts, passed_from, held_parts, held_from, due_parts, due_from, free_parts, met_gives, done_met, due_below, with_gives, with_keeps, with_has, met_more, due_before, taken_steady, steady_sound}
+use Rattle.toid_filter.proofs.HeldLemmas.{Rising, filter_all, filter_none, two_parts, first_named, first_after, still_from, next_left}
 use Rattle.toid_filter.proofs.Reached.{raised_length}
 
-abbrev IsPlace : ℕ → ℕ → List Record → ℕ → Type 0
-IsPlace h t held at = IsPartitionPoint (λ q. stands_before h t q ≡ true) (λ q. stands_before h t q ≡ false) held at
-
-abbrev Rising : List Record → Type 0
-Rising held = AllPairs (λ q r. stands_before r.host r.toid q ≡ true) held
-
--- In a rising list those that stand before a name come first.
-pub rising_parted : (h t : ℕ) (held : List Record) → Rising held → IsPartitionedBy (stands_before h t) held
-rising_parted h t held rising i j d order within later = elim (cases_lt i j) [
-  | inl before ↦ before_trans (get_or held i d) (get_or held j d) h t (rising i j d before within) later
-  | inr same ↦ let equal : i ≡ j = omega arith in ap (λ k. stands_before h t (get_or held k d)) equal ∙ later
-]
-
--- a record with a name stands at the name's place
-pub named_at : (h t : ℕ) (held : List Record) (at : ℕ) → Rising held → IsPlace h t held at → (x : Record) → Contains held x → x.host ≡ h → x.toid ≡ t → (at < length held) × ((d : Record) → get_or held at d ≡ x)
-named_at h t held at rising place x (k, within, is) host toid = elim (cases_lt k at) [
-  | inl low ↦ elim (before_parts h t (get_or held k x) (place.0 k x (omega arith) low)) [
-    | inl less ↦ absurd (omega (arith, host, ap (λ (y : Record). y.host) is))
-    | inr also ↦ absurd (omega (arith, toid, also.1, ap (λ (y : Record). y.toid) is))
-  ]
-  | inr high ↦ elim (cases_lt at k) [
-    | inr same ↦ let equal : at ≡ k = omega arith in (omega arith, λ d. ap (λ i. get_or held i d) equal ∙ get_or_default held k d x within ∙ is)
-    | inl above ↦
-        let before : stands_before (get_or held k x).host (get_or held k x).toid (get_or held at x) ≡ true = rising at k x above within in
-        let is_before : stands_before h t (get_or held at x) ≡ true = sym (ap₂ (λ a b. stands_before a b (get_or held at x)) (ap (λ (y : Record). y.host) is ∙ host) (ap (λ (y : Record). y.toid) is ∙ toid)) ∙ before in
-        absurd (true≢false (sym is_before ∙ place.1 at x (omega arith) (omega arith)))
-  ]
-]
-
-held_at : (f : FilterState) (at h t : ℕ) → Rising f.held → IsPlace h t f.held at → (o : Option Record) → slice_get f.held at ≡ o → option_map_or (has_name h t) o false ≡ is_held f h t
-held_at f at h t rising place None is = sym (false_from_ne_true (is_held f h t) (λ held.
-    let found = held_parts f h t held in
-    let there = named_at h t f.held at rising place found.0 found.1 found.2 found.3 in
-    absurd (none_there f.held at is there.0)))
-  where
-    none_there : (xs : List Record) (k : ℕ) → slice_get xs k ≡ None → k < length xs → ⊥
-    none_there [] k is within = absurd (omega arith)
-    none_there (x ∷ xs) zero is within = absurd (cc)
-    none_there (x ∷ xs) (suc k) is within = none_there xs k is (omega arith)
-held_at f at h t rising place (Some q) is = elim (cases_Bool (has_name h t q)) [
-  | inl named ↦ let parts = name_parts h t q named in named ∙ sym (held_from f h t q (Contains-slice_get f.held at q is) parts.0 parts.1)
-  | inr other ↦ other ∙ sym (false_from_ne_true (is_held f h t) (λ held.
-      let found = held_parts f h t held in
-      let there = named_at h t f.held at rising place found.0 found.1 found.2 found.3 in
-      let same : q ≡ found.0 = sym (get_or_from_slice_get f.held at q q is) ∙ there.1 q in
-      true≢false (sym (name_from h t q (ap (λ (y : Record). y.host) same ∙ found.2) (ap (λ (y : Record). y.toid) same ∙ found.3)) ∙ other)))
-]
-
 -- what was not passed is known if it is held
-pub known_at : (f : FilterState) (at h t : ℕ) → Rising f.held → IsPlace h t f.held at → get_or f.reached h 0 < t → option_map_or (has_name h t) (slice_get f.held at) false ≡ is_known f h t
-known_at f at h t rising place low =
+pub known_above : (f : FilterState) (h t : ℕ) → get_or f.reached h 0 < t → is_held f h t ≡ is_known f h t
+known_above f h t low =
     let unpassed : is_passed f h t ≡ false = false_from_ne_true (is_passed f h t) (λ is. absurd (omega (arith, (passed_parts f h t is).1))) in
-    held_at f at h t rising place (slice_get f.held at) refl ∙ sym (ap (λ b. b || is_held f h t) unpassed)
+    sym (ap (λ b. b || is_held f h t) unpassed)
 
 pub known_below : (f : FilterState) (h t : ℕ) → 1 ≤ t → owns f h t ≡ true → t ≤ get_or f.reached h 0 → is_known f h t ≡ true
 known_below f h t some own low = or_left (is_passed f h t) (is_held f h t) (passed_from f h t some low own)
@@ -108,37 +58,6 @@ pairs_drop R zero xs all = all
 pairs_drop R (suc n) [] all = λ i j d before within. absurd (omega arith)
 pairs_drop R (suc n) (x ∷ xs) all = pairs_drop R n xs (pairs_parts R x xs all).1
 
-filter_all : (p : Record → Bool) (xs : List Record) → All (λ x. p x ≡ true) xs → filter p xs ≡ xs
-filter_all p [] all = refl
-filter_all p (x ∷ xs) all = ap (λ b. cond b (x ∷ filter p xs) (filter p xs)) (All-head (λ y. p y ≡ true) x xs all) ∙ ap (λ ys. x ∷ ys) (filter_all p xs (All-tail (λ y. p y ≡ true) x xs all))
-
-filter_none : (p : Record → Bool) (xs : List Record) → All (λ x. p x ≡ false) xs → filter p xs ≡ []
-filter_none p [] all = refl
-filter_none p (x ∷ xs) all = ap (λ b. cond b (x ∷ filter p xs) (filter p xs)) (All-head (λ y. p y ≡ false) x xs all) ∙ filter_none p xs (All-tail (λ y. p y ≡ false) x xs all)
-
-before_place : (h t : ℕ) (held : List Record) (at : ℕ) → IsPlace h t held at → at ≤ length held → All (λ q. stands_before h t q ≡ true) (take at held)
-before_place h t held at place inside = λ k d within.
-    let low : k < at = omega (arith, length-take-le at held inside) in
-    ap (stands_before h t) (get_or-take at held k d low) ∙ place.0 k d (omega arith) low
-
-after_place : (h t : ℕ) (held : List Record) (at : ℕ) → IsPlace h t held at → All (λ q. stands_before h t q ≡ false) (drop at held)
-after_place h t held at place = λ k d within. ap (stands_before h t) (get_or-drop at held k d) ∙ place.1 (at + k) d (omega arith) (omega (arith, length-drop at held))
-
-front_is : (h t : ℕ) (held : List Record) (at : ℕ) → IsPlace h t held at → at ≤ length held → filter (stands_before h t) held ≡ take at held
-front_is h t held at place inside = ap (filter (stands_before h t)) (sym (take-append-drop at held)) ∙ filter-append (stands_before h t) (take at held) (drop at held)
-    ∙ ap₂ (λ xs ys. xs ++ ys) (filter_all (stands_before h t) (take at held) (before_place h t held at place inside)) (filter_none (stands_before h t) (drop at held) (after_place h t held at place))
-    ∙ append-nil (take at held)
-
-back_is : (h t : ℕ) (held : List Record) (at : ℕ) → IsPlace h t held at → at ≤ length held → filter (λ q. not (stands_before h t q)) held ≡ drop at held
-back_is h t held at place inside = ap (filter (λ q. not (stands_before h t q))) (sym (take-append-drop at held)) ∙ filter-append (λ q. not (stands_before h t q)) (take at held) (drop at held)
-    ∙ ap₂ (λ xs ys. xs ++ ys)
-    (filter_none (λ q. not (stands_before h t q)) (take at held) (λ k d deep. not_from_true (stands_before h t (get_or (take at held) k d)) (before_place h t held at place inside k d deep)))
-    (filter_all (λ q. not (stands_before h t q)) (drop at held) (λ k d deep. not_from_false (stands_before h t (get_or (drop at held) k d)) (after_place h t held at place k d deep)))
-
--- what is held with the record, by its place
-pub held_with : (f : FilterState) (r : Record) (at : ℕ) → IsPlace r.host r.toid f.held at → at ≤ length f.held → (with_held f r).held ≡ take at f.held ++ r ∷ drop at f.held
-held_with f r at place inside = ap₂ (λ xs ys. xs ++ r ∷ ys) (front_is r.host r.toid f.held at place inside) (back_is r.host r.toid f.held at place inside)
-
 -- What holds while the records that follow on one are counted: so many are due, and each own number up to the last is met.
 pub record IsRunning (g : FilterState) (h first : ℕ) (back : List Record) (count last : ℕ) : Type 0 where
   pub due : All (λ q. is_due g q ≡ true) (take count back)
@@ -147,27 +66,30 @@ pub record IsRunning (g : FilterState) (h first : ℕ) (back : List Record) (cou
   pub below : All (λ q. q.toid ≤ last) (take count back)
   pub above : All (λ q. q.host ≡ h → last < q.toid) (drop count back)
 
-module _ (f : FilterState) (r : Record) (steady : IsSteady f) (fits : Fits f r) (new : is_known f r.host r.toid ≡ false) (free : is_free f r ≡ true) (at : ℕ) (place : IsPlace r.host r.toid f.held at) (inside : at ≤ length f.held) where
+module _ (f : FilterState) (r : Record) (steady : IsSteady f) (fits : Fits f r) (new : is_known f r.host r.toid ≡ false) (free : is_free f r ≡ true) where
   abbrev g : FilterState
   g = with_held f r
 
   abbrev front : List Record
-  front = take at f.held
+  front = before_name r.host r.toid f.held
 
   abbrev back : List Record
-  back = drop at f.held
+  back = from_name r.host r.toid f.held
 
   whole : f.held ≡ front ++ back
-  whole = sym (take-append-drop at f.held)
+  whole = two_parts r.host r.toid f.held steady.tidy.rising
 
   in_back : (q : Record) → Contains back q → Contains f.held q
-  in_back q (k, within, is) = (at + k, omega (arith, length-drop at f.held), sym (get_or-drop at f.held k q) ∙ is)
+  in_back q has = (Contains-filter (λ x. not (stands_before r.host r.toid x)) f.held q has).0
 
   back_after : (q : Record) → Contains back q → stands_before r.host r.toid q ≡ false
-  back_after q has = All-contains (λ x. stands_before r.host r.toid x ≡ false) back q (after_place r.host r.toid f.held at place) has
+  back_after q has = not-true (stands_before r.host r.toid q) (Contains-filter (λ x. not (stands_before r.host r.toid x)) f.held q has).1
+
+  back_rising : Rising back
+  back_rising = AllPairs-filter (λ (q s : Record). stands_before s.host s.toid q ≡ true) (λ x. not (stands_before r.host r.toid x)) f.held steady.tidy.rising
 
   front_before : All (λ q. stands_before r.host r.toid q ≡ true) front
-  front_before = before_place r.host r.toid f.held at place inside
+  front_before = all_from_contains (λ q. stands_before r.host r.toid q ≡ true) front (λ q has. (Contains-filter (stands_before r.host r.toid) f.held q has).1)
 
   unpassed : is_passed f r.host r.toid ≡ false
   unpassed = (or_parts (is_passed f r.host r.toid) (is_held f r.host r.toid) new).0
@@ -205,7 +127,7 @@ module _ (f : FilterState) (r : Record) (steady : IsSteady f) (fits : Fits f r) 
 
     after_next : All (λ (q : Record). stands_before q.host q.toid next ≡ true) (drop (count + 1) back)
     after_next = (pairs_parts (λ (q s : Record). stands_before s.host s.toid q ≡ true) next (drop (count + 1) back)
-        (subst (λ xs. Rising xs) parted (pairs_drop (λ (q s : Record). stands_before s.host s.toid q ≡ true) count back (pairs_drop (λ (q s : Record). stands_before s.host s.toid q ≡ true) at f.held steady.tidy.rising)))).0
+        (subst (λ xs. Rising xs) parted (pairs_drop (λ (q s : Record). stands_before s.host s.toid q ≡ true) count back back_rising))).0
 
     next_above : next.host ≡ r.host → last < next.toid
     next_above = All-head (λ (q : Record). q.host ≡ r.host → last < q.toid) next (drop (count + 1) back) (subst (All (λ (q : Record). q.host ≡ r.host → last < q.toid)) parted now.above)
@@ -290,13 +212,16 @@ module _ (f : FilterState) (r : Record) (steady : IsSteady f) (fits : Fits f r) 
           ]
         ]
 
-  -- what passes, and what stays, where the records of a range are due and those after it are not
-  module _ (until : ℕ) (order : at ≤ until) (run_due : All (λ q. is_due g q ≡ true) (slice_range f.held at until)) (rest_not : All (λ q. is_due g q ≡ false) (drop until f.held)) where
+  -- what passes, and what stays, where so many records are due and those after them are not
+  module _ (count : ℕ) (run_due : All (λ q. is_due g q ≡ true) (take count back)) (rest_not : All (λ q. is_due g q ≡ false) (drop count back)) where
     abbrev run : List Record
-    run = slice_range f.held at until
+    run = take count back
 
-    held_is : g.held ≡ front ++ r ∷ (run ++ drop until f.held)
-    held_is = held_with f r at place inside ∙ ap (λ ys. front ++ r ∷ ys) (drop_split f.held at until order)
+    abbrev rest : List Record
+    rest = drop count back
+
+    held_is : g.held ≡ front ++ r ∷ (run ++ rest)
+    held_is = ap (λ ys. front ++ r ∷ ys) (sym (take-append-drop count back))
 
     front_not : All (λ q. is_due g q ≡ false) front
     front_not = all_from_contains (λ q. is_due g q ≡ false) front (λ q has. false_from_ne_true (is_due g q) (λ is.
@@ -312,20 +237,20 @@ module _ (f : FilterState) (r : Record) (steady : IsSteady f) (fits : Fits f r) 
     r_due = due_from g r (λ u low. met_with u (omega arith)) (free_parts f r free).1
 
     pub due_is_run : due g ≡ r ∷ run
-    due_is_run = ap (filter (is_due g)) held_is ∙ filter-append (is_due g) front (r ∷ (run ++ drop until f.held))
+    due_is_run = ap (filter (is_due g)) held_is ∙ filter-append (is_due g) front (r ∷ (run ++ rest))
         ∙ ap₂ (λ xs ys. xs ++ ys) (filter_none (is_due g) front front_not)
-        (ap (λ b. cond b (r ∷ filter (is_due g) (run ++ drop until f.held)) (filter (is_due g) (run ++ drop until f.held))) r_due
-        ∙ ap (λ xs. r ∷ xs) (filter-append (is_due g) run (drop until f.held) ∙ ap₂ (λ xs ys. xs ++ ys) (filter_all (is_due g) run run_due) (filter_none (is_due g) (drop until f.held) rest_not) ∙ append-nil run))
+        (ap (λ b. cond b (r ∷ filter (is_due g) (run ++ rest)) (filter (is_due g) (run ++ rest))) r_due
+        ∙ ap (λ xs. r ∷ xs) (filter-append (is_due g) run (rest) ∙ ap₂ (λ xs ys. xs ++ ys) (filter_all (is_due g) run run_due) (filter_none (is_due g) (rest) rest_not) ∙ append-nil run))
 
-    pub not_due_is_rest : not_due g ≡ remove_range f.held at until
-    not_due_is_rest = ap (filter (λ q. not (is_due g q))) held_is ∙ filter-append (λ q. not (is_due g q)) front (r ∷ (run ++ drop until f.held))
+    pub not_due_is_rest : not_due g ≡ front ++ rest
+    not_due_is_rest = ap (filter (λ q. not (is_due g q))) held_is ∙ filter-append (λ q. not (is_due g q)) front (r ∷ (run ++ rest))
         ∙ ap₂ (λ xs ys. xs ++ ys) (filter_all (λ q. not (is_due g q)) front (λ k d deep. not_from_false (is_due g (get_or front k d)) (front_not k d deep)))
-        (ap (λ b. cond (not b) (r ∷ filter (λ q. not (is_due g q)) (run ++ drop until f.held)) (filter (λ q. not (is_due g q)) (run ++ drop until f.held))) r_due
-        ∙ filter-append (λ q. not (is_due g q)) run (drop until f.held)
+        (ap (λ b. cond (not b) (r ∷ filter (λ q. not (is_due g q)) (run ++ rest)) (filter (λ q. not (is_due g q)) (run ++ rest))) r_due
+        ∙ filter-append (λ q. not (is_due g q)) run (rest)
         ∙ ap₂ (λ xs ys. xs ++ ys) (filter_none (λ q. not (is_due g q)) run (λ k d deep. not_from_true (is_due g (get_or run k d)) (run_due k d deep)))
-        (filter_all (λ q. not (is_due g q)) (drop until f.held) (λ k d deep. not_from_false (is_due g (get_or (drop until f.held) k d)) (rest_not k d deep))))
+        (filter_all (λ q. not (is_due g q)) (rest) (λ k d deep. not_from_false (is_due g (get_or (rest) k d)) (rest_not k d deep))))
 
-    pub passing_is : IsTaken f r Passed (record f { reached = reached_by (raised f.reached r.host r.toid) run; held = remove_range f.held at until; out = (f.out ++ External r ∷ []) ++ map External run })
+    pub passing_is : IsTaken f r Passed (record f { reached = reached_by (raised f.reached r.host r.toid) run; held = front ++ rest; out = (f.out ++ External r ∷ []) ++ map External run })
     passing_is = (
       new,
       free,
@@ -338,85 +263,140 @@ module _ (f : FilterState) (r : Record) (steady : IsSteady f) (fits : Fits f r) 
         same_parts : {a b : List ℕ} {x y : List Record} {s t : List Item} → a ≡ b → x ≡ y → s ≡ t → record f { reached = a; held = x; out = s } ≡ record f { reached = b; held = y; out = t }
         same_parts e1 e2 e3 = λ i. record f { reached = e1 i; held = e2 i; out = e3 i }
 
--- The code's parts. The list that a loop walks is the held records from a place on.
-same_back : (held xs : List Record) (at : ℕ) → xs ≡ held → take (length xs - at) (drop at xs) ≡ drop at held
-same_back held xs at is = take_all (length xs - at) (drop at xs) (omega (arith, length-drop at xs)) ∙ ap (drop at) is
+-- The code's parts. A loop has gone so far over the records from the new one on, which are shown under their names.
+pub record IsWalking (f : FilterState) (r : Record) (left : List ((ℕ × ℕ) × Record)) (count last : ℕ) : Type 0 where
+  pub shown : left ≡ map named (drop count (from_name r.host r.toid f.held))
+  pub within : count ≤ length (from_name r.host r.toid f.held)
+  pub running : IsRunning (with_held f r) r.host r.toid (from_name r.host r.toid f.held) count last
 
-module _ (f : FilterState) (r : Record) (steady : IsSteady f) (fits : Fits f r) (new : is_known f r.host r.toid ≡ false) (free : is_free f r ≡ true) (at : ℕ) (place : IsPlace r.host r.toid f.held at) (inside : at ≤ length f.held) (xs : List Record) (is : xs ≡ f.held) where
-  abbrev walked : List Record
-  walked = take (length xs - at) (drop at xs)
+module _ (f : FilterState) (r : Record) (steady : IsSteady f) (fits : Fits f r) (new : is_known f r.host r.toid ≡ false) (free : is_free f r ≡ true) where
+  abbrev behind : List Record
+  behind = from_name r.host r.toid f.held
 
-  walked_is : walked ≡ drop at f.held
-  walked_is = same_back f.held xs at is
+  pub walk_starts : (left : List ((ℕ × ℕ) × Record)) → left ≡ map named behind → IsWalking f r left 0 r.toid
+  walk_starts left is = record { shown = is; within = omega arith; running = running_start f r steady fits new free }
 
-  abbrev Goes : List Record → ℕ → ℕ → Type 0
-  Goes ys count last = IsRunning (with_held f r) r.host r.toid ys count last
+  module _ (left : List ((ℕ × ℕ) × Record)) (count last : ℕ) (now : IsWalking f r left count last) (next : (ℕ × ℕ) × Record) (others : List ((ℕ × ℕ) × Record)) (is_next : left ≡ next ∷ others) where
+    first_is : (slice_get (drop count behind) 0 ≡ Some next.1) × (next ≡ named next.1) × (others ≡ map named (drop 1 (drop count behind)))
+    first_is = first_named (drop count behind) next others (sym now.shown ∙ is_next)
 
-  pub walk_starts : Goes walked 0 r.toid
-  walk_starts = subst (λ ys. Goes ys 0 r.toid) (sym walked_is) (running_start f r steady fits new free at place inside)
+    at_it : (count < length behind) × (get_or behind count next.1 ≡ next.1) × (take (count + 1) behind ≡ take count behind ++ next.1 ∷ [])
+    at_it = first_after count behind next.1 first_is.0
 
-  module _ (count last : ℕ) (now : Goes walked count last) (within : count < length walked) (next : Record) (is_next : next ≡ get_or walked count next) where
-    there : count < length (drop at f.held)
-    there = omega (arith, ap length walked_is)
+    pub walk_within : count < length behind
+    walk_within = at_it.0
 
-    next_there : get_or (drop at f.held) count next ≡ next
-    next_there = sym (is_next ∙ ap (λ ys. get_or ys count next) walked_is)
+    pub walk_goes : Follows f next.1 r.host last → IsWalking f r others (count + 1) next.1.toid
+    walk_goes follows = record {
+      shown = first_is.2 ∙ ap (map named) (drop-drop 1 count behind);
+      within = omega (arith, at_it.0);
+      running = running_step f r steady fits new free count last now.running at_it.0 next.1 at_it.1 follows;
+    }
 
-    pub walk_goes : Follows f next r.host last → Goes walked (count + 1) next.toid
-    walk_goes follows = subst (λ ys. Goes ys (count + 1) next.toid) (sym walked_is)
-        (running_step f r steady fits new free at place inside count last (subst (λ ys. Goes ys count last) walked_is now) there next next_there follows)
+    pub walk_stops : (Follows f next.1 r.host last → ⊥) → All (λ q. is_due (with_held f r) q ≡ false) (drop count behind)
+    walk_stops stops = running_stop f r steady fits new free count last now.running at_it.0 next.1 at_it.1 stops
 
-    pub walk_stops : (Follows f next r.host last → ⊥) → All (λ q. is_due (with_held f r) q ≡ false) (drop (at + count) f.held)
-    walk_stops stops = subst (All (λ q. is_due (with_held f r) q ≡ false)) (drop-drop count at f.held)
-        (running_stop f r steady fits new free at place inside count last (subst (λ ys. Goes ys count last) walked_is now) there next next_there stops)
+-- A loop has taken out so many of the records from a name on, and passed them.
+pub record IsMoving (h t : ℕ) (held : List Record) (reached : List ℕ) (out : List Item) (count : ℕ) (held_now : List Record) (reached_now : List ℕ) (out_now : List Item) : Type 0 where
+  pub kept : held_now ≡ before_name h t held ++ drop count (from_name h t held)
+  pub raised : reached_now ≡ reached_by reached (take count (from_name h t held))
+  pub moved : out_now ≡ out ++ map External (take count (from_name h t held))
 
-  pub walk_due : (count last : ℕ) → Goes walked count last → All (λ q. is_due (with_held f r) q ≡ true) (slice_range f.held at (at + count))
-  walk_due count last now = subst (All (λ q. is_due (with_held f r) q ≡ true)) (ap (take count) walked_is ∙ ap (λ n. take n (drop at f.held)) (omega arith)) now.due
+reached_push : (reached : List ℕ) (rs : List Record) (r : Record) → reached_by reached (rs ++ r ∷ []) ≡ raised (reached_by reached rs) r.host r.toid
+reached_push reached [] r = refl
+reached_push reached (q ∷ rs) r = reached_push (raised reached q.host q.toid) rs r
 
-  pub walk_ends : (count last end : ℕ) → Goes walked count last → length walked ≤ count → end ≡ length f.held → All (λ q. is_due (with_held f r) q ≡ true) (slice_range f.held at end)
-  walk_ends count last end now past at_end = subst (All (λ q. is_due (with_held f r) q ≡ true))
-      (take_all count walked past ∙ walked_is ∙ sym (take_all (end - at) (drop at f.held) (omega (arith, length-drop at f.held)))) now.due
+map_push : (rs : List Record) (r : Record) → map External (rs ++ r ∷ []) ≡ map External rs ++ External r ∷ []
+map_push [] r = refl
+map_push (q ∷ rs) r = ap (λ xs. External q ∷ xs) (map_push rs r)
+
+module _ (h t : ℕ) (held : List Record) (reached : List ℕ) (out : List Item) where
+  pub move_starts : Rising held → IsMoving h t held reached out 0 held reached out
+  move_starts rising = record { kept = two_parts h t held rising; raised = refl; moved = sym (append-nil out) }
+
+  module _ (count : ℕ) (held_now : List Record) (reached_now : List ℕ) (out_now : List Item) (now : IsMoving h t held reached out count held_now reached_now out_now) where
+    left_is : from_name h t held_now ≡ drop count (from_name h t held)
+    left_is = ap (from_name h t) now.kept ∙ still_from h t held count
+
+    pub move_goes : (r : Record) (held_next : List Record) → Some r ≡ slice_get (from_name h t held_now) 0 → held_next ≡ before_name h t held_now ++ drop 1 (from_name h t held_now)
+        → IsMoving h t held reached out (count + 1) held_next (raised reached_now r.host r.toid) (out_now ++ External r ∷ [])
+    move_goes r held_next is next_is =
+        let first = first_after count (from_name h t held) r (ap (λ xs. slice_get xs 0) (sym left_is) ∙ sym is) in record {
+          kept = next_is ∙ ap (λ xs. before_name h t xs ++ drop 1 (from_name h t xs)) now.kept ∙ next_left h t held count;
+          raised = ap (λ xs. raised xs r.host r.toid) now.raised ∙ sym (reached_push reached (take count (from_name h t held)) r) ∙ ap (reached_by reached) (sym first.2);
+          moved = ap (λ xs. xs ++ External r ∷ []) now.moved ∙ append_assoc out (map External (take count (from_name h t held))) (External r ∷ [])
+              ∙ ap (λ xs. out ++ xs) (sym (map_push (take count (from_name h t held)) r) ∙ ap (map External) (sym first.2));
+        }
+
+    pub move_next : (r : Record) (held_next : List Record) (reached_next : List ℕ) (out_next : List Item) → Some r ≡ slice_get (from_name h t held_now) 0 → held_next ≡ before_name h t held_now ++ drop 1 (from_name h t held_now)
+        → reached_next ≡ raised reached_now r.host r.toid → out_next ≡ out_now ++ External r ∷ [] → IsMoving h t held reached out (count + 1) held_next reached_next out_next
+    move_next r held_next reached_next out_next is next_is raised_is out_is =
+        let goes = move_goes r held_next is next_is in record { kept = goes.kept; raised = raised_is ∙ goes.raised; moved = out_is ∙ goes.moved }
+
+    -- there is one more
+    pub move_has : count < length (from_name h t held) → None ≡ slice_get (from_name h t held_now) 0 → ⊥
+    move_has within is = none_first (from_name h t held_now) (sym is) (omega (arith, ap (length {A = Record}) left_is, length-drop count (from_name h t held)))
+      where
+        none_first : (xs : List Record) → slice_get xs 0 ≡ None → 1 ≤ length xs → ⊥
+        none_first [] is some = absurd (omega arith)
+        none_first (x ∷ xs) is some = absurd (cc)
+
+    -- what stands first has the host of a record held before
+    pub move_host : (r : Record) (n : ℕ) → All (λ q. q.host < n) held → Some r ≡ slice_get (from_name h t held_now) 0 → r.host < n
+    move_host r n hosts is =
+        let first = first_after count (from_name h t held) r (ap (λ xs. slice_get xs 0) (sym left_is) ∙ sym is) in
+        let has : Contains (from_name h t held) r = (count, first.0, first.1) in
+        All-contains (λ (q : Record). q.host < n) held r hosts (Contains-filter (λ q. not (stands_before h t q)) held r has).0
+
+-- the same filter, seen whole and by its parts
+pub behind_same : (v f : FilterState) (r : Record) (count : ℕ) → v ≡ f → count ≤ length (from_name r.host r.toid f.held) → count ≤ length (from_name r.host r.toid v.held)
+behind_same v f r count same within = omega (arith, ap (λ (w : FilterState). length (from_name r.host r.toid w.held)) same)
+
+pub unheld_same : (v f : FilterState) (h t : ℕ) → v ≡ f → is_known f h t ≡ false → is_held v h t ≡ false
+unheld_same v f h t same new = ap (λ (w : FilterState). is_held w h t) same ∙ (or_parts (is_passed f h t) (is_held f h t) new).1
 
 -- a record that may not pass is held at its place
-pub hold_taken : (v f : FilterState) (r : Record) (at : ℕ) (held : List Record) → v ≡ f → IsSteady v → Fits f r → is_known f r.host r.toid ≡ false → is_free f r ≡ false → IsPlace r.host r.toid f.held at → at ≤ length f.held
-    → held ≡ take at v.held ++ r ∷ drop at v.held → IsTaken f r Held (record v { held = held }) × IsSteady (record v { held = held })
-hold_taken v f r at held same steady fits new unfree place inside is =
+pub hold_taken : (v f : FilterState) (r : Record) (held : List Record) → v ≡ f → IsSteady v → Fits f r → is_known f r.host r.toid ≡ false → is_free f r ≡ false
+    → held ≡ before_name r.host r.toid v.held ++ r ∷ from_name r.host r.toid v.held → IsTaken f r Held (record v { held = held }) × IsSteady (record v { held = held })
+hold_taken v f r held same steady fits new unfree is =
     let f_steady : IsSteady f = subst IsSteady same steady in
     let state : record v { held = held } ≡ with_held f r = (λ i. record (same i) { held = both i }) in
     let took : IsTaken f r Held (record v { held = held }) = (new, unfree, state) in
     (took, taken_steady f r Held (record v { held = held }) f_steady fits took)
   where
     both : held ≡ (with_held f r).held
-    both = is ∙ ap (λ (w : FilterState). take at w.held ++ r ∷ drop at w.held) same ∙ sym (held_with f r at place inside)
+    both = is ∙ ap (λ (w : FilterState). before_name r.host r.toid w.held ++ r ∷ from_name r.host r.toid w.held) same
 
 -- a record that may pass passes, with those that follow
-pub pass_taken : (v f : FilterState) (r : Record) (at until : ℕ) (xs : List Record) (reached : List ℕ) (held : List Record) (out : List Item) → v ≡ f → IsSteady v → Fits f r → is_known f r.host r.toid ≡ false → is_free f r ≡ true
-    → IsPlace r.host r.toid f.held at → at ≤ length f.held → at ≤ until → All (λ q. is_due (with_held f r) q ≡ true) (slice_range f.held at until) → All (λ q. is_due (with_held f r) q ≡ false) (drop until f.held)
-    → xs ≡ v.held → reached ≡ reached_by (raised v.reached r.host r.toid) (slice_range xs at until) → held ≡ remove_range v.held at until
-    → out ≡ (v.out ++ External r ∷ []) ++ map External (slice_range v.held at until)
+pub pass_taken : (v f : FilterState) (r : Record) (count : ℕ) (first reached : List ℕ) (held : List Record) (early out : List Item) → v ≡ f → IsSteady v → Fits f r → is_known f r.host r.toid ≡ false → is_free f r ≡ true
+    → All (λ q. is_due (with_held f r) q ≡ true) (take count (from_name r.host r.toid f.held)) → All (λ q. is_due (with_held f r) q ≡ false) (drop count (from_name r.host r.toid f.held))
+    → first ≡ raised v.reached r.host r.toid → reached ≡ reached_by first (take count (from_name r.host r.toid v.held))
+    → held ≡ before_name r.host r.toid v.held ++ drop count (from_name r.host r.toid v.held)
+    → early ≡ v.out ++ External r ∷ [] → out ≡ early ++ map External (take count (from_name r.host r.toid v.held))
     → IsTaken f r Passed (record v { reached = reached; held = held; out = out }) × IsSteady (record v { reached = reached; held = held; out = out })
-pass_taken v f r at until xs reached held out same steady fits new free place inside order run_due rest_not walked at_reached at_held at_out =
+pass_taken v f r count first reached held early out same steady fits new free run_due rest_not at_first at_reached at_held at_early at_out =
     let f_steady : IsSteady f = subst IsSteady same steady in
-    let model = passing_is f r f_steady fits new free at place inside until order run_due rest_not in
+    let model = passing_is f r f_steady fits new free count run_due rest_not in
     let took : IsTaken f r Passed (record v { reached = reached; held = held; out = out }) = (new, free, state ∙ model.2) in
     (took, taken_steady f r Passed (record v { reached = reached; held = held; out = out }) f_steady fits took)
   where
-    reached_is : reached ≡ reached_by (raised f.reached r.host r.toid) (slice_range f.held at until)
-    reached_is = at_reached ∙ ap (λ ys. reached_by (raised v.reached r.host r.toid) (slice_range ys at until)) walked ∙ ap (λ (w : FilterState). reached_by (raised w.reached r.host r.toid) (slice_range w.held at until)) same
+    reached_is : reached ≡ reached_by (raised f.reached r.host r.toid) (take count (from_name r.host r.toid f.held))
+    reached_is = at_reached ∙ ap (λ xs. reached_by xs (take count (from_name r.host r.toid v.held))) at_first
+        ∙ ap (λ (w : FilterState). reached_by (raised w.reached r.host r.toid) (take count (from_name r.host r.toid w.held))) same
 
-    held_is : held ≡ remove_range f.held at until
-    held_is = at_held ∙ ap (λ (w : FilterState). remove_range w.held at until) same
+    held_is : held ≡ before_name r.host r.toid f.held ++ drop count (from_name r.host r.toid f.held)
+    held_is = at_held ∙ ap (λ (w : FilterState). before_name r.host r.toid w.held ++ drop count (from_name r.host r.toid w.held)) same
 
-    out_is : out ≡ (f.out ++ External r ∷ []) ++ map External (slice_range f.held at until)
-    out_is = at_out ∙ ap (λ (w : FilterState). (w.out ++ External r ∷ []) ++ map External (slice_range w.held at until)) same
+    out_is : out ≡ (f.out ++ External r ∷ []) ++ map External (take count (from_name r.host r.toid f.held))
+    out_is = at_out ∙ ap (λ xs. xs ++ map External (take count (from_name r.host r.toid v.held))) at_early
+        ∙ ap (λ (w : FilterState). (w.out ++ External r ∷ []) ++ map External (take count (from_name r.host r.toid w.held))) same
 
-    state : record v { reached = reached; held = held; out = out } ≡ record f { reached = reached_by (raised f.reached r.host r.toid) (slice_range f.held at until); held = remove_range f.held at until; out = (f.out ++ External r ∷ []) ++ map External (slice_range f.held at until) }
+    state : record v { reached = reached; held = held; out = out } ≡ record f { reached = reached_by (raised f.reached r.host r.toid) (take count (from_name r.host r.toid f.held)); held = before_name r.host r.toid f.held ++ drop count (from_name r.host r.toid f.held); out = (f.out ++ External r ∷ []) ++ map External (take count (from_name r.host r.toid f.held)) }
     state = λ i. record (same i) { reached = reached_is i; held = held_is i; out = out_is i }
 
 -- the hosts of held records are those of the map
-pub hosts_fit : (f : FilterState) (xs : List Record) (reached : List ℕ) (h t at n : ℕ) → IsSteady f → xs ≡ f.held → reached ≡ raised f.reached h t → All (λ q. q.host < length reached) (take n (drop at xs))
-hosts_fit f xs reached h t at n steady is at_reached = All-take (λ (q : Record). q.host < length reached) n (drop at xs) (All-drop (λ (q : Record). q.host < length reached) at xs
-    (subst (All (λ (q : Record). q.host < length reached)) (sym is) (All-weaker (Fits f) (λ (q : Record). q.host < length reached) (λ q was. omega (arith, was.host, steady.tidy.width, ap length at_reached, raised_length f.reached h t)) f.held steady.tidy.fits)))
+pub hosts_fit : (f : FilterState) (reached : List ℕ) (h t : ℕ) → IsSteady f → reached ≡ raised f.reached h t → All (λ q. q.host < length reached) f.held
+hosts_fit f reached h t steady at_reached = All-weaker (Fits f) (λ (q : Record). q.host < length reached) (λ q was. omega (arith, was.host, steady.tidy.width, ap length at_reached, raised_length f.reached h t)) f.held steady.tidy.fits
 
 -- the same filter with an equal held list
 pub sound_held : (f : FilterState) (held : List Record) → held ≡ f.held → IsSteady f → IsSound (record f { held = held })

@@ -98,9 +98,20 @@ released f = record f { reached = reached_by f.reached (due f); held = not_due f
 abbrev pub stands_before : ℕ → ℕ → Record → Bool
 stands_before h t r = nat_lt r.host h || ((r.host == h) && nat_lt r.toid t)
 
+-- the records that stand before number t of host h, and those from it on
+abbrev pub before_name : ℕ → ℕ → List Record → List Record
+before_name h t rs = filter (stands_before h t) rs
+
+abbrev pub from_name : ℕ → ℕ → List Record → List Record
+from_name h t rs = filter (λ q. not (stands_before h t q)) rs
+
+-- a record with its name before it
+abbrev pub named : Record → (ℕ × ℕ) × Record
+named r = ((r.host, r.toid), r)
+
 -- the record is held at its place
 abbrev pub with_held : FilterState → Record → FilterState
-with_held f r = record f { held = filter (stands_before r.host r.toid) f.held ++ r ∷ filter (λ q. not (stands_before r.host r.toid q)) f.held }
+with_held f r = record f { held = before_name r.host r.toid f.held ++ r ∷ from_name r.host r.toid f.held }
 
 -- the record is the next own one of host h after a number, and no accepted mark holds it back
 pub record Follows (f : FilterState) (r : Record) (h last : ℕ) : Type 0 where

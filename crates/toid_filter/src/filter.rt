@@ -1,11 +1,10 @@
-ghost use Rattle.std.specs.Prelude.{◌≡◌, [], ◌∷◌, ◌++◌, ◌+◌, ◌-◌, ◌<◌, ◌≤◌, ◌↔◌, true, false, All, drop, length, map, slice_get, vec_capacity, vec_len, IfErr, IfOk, IsTrue, OnErr, OnOk};
-ghost use Rattle.std.specs.Option.{option_map_or};
-ghost use Rattle.std.specs.List.{remove_range, slice_range};
-ghost use Rattle.std.specs.List.Sorted.{IsPartitionPoint};
+ghost use Rattle.std.specs.Prelude.{◌≡◌, [], ◌∷◌, ◌++◌, ◌+◌, ◌^◌, ◌<◌, ◌≤◌, ◌↔◌, true, false, All, drop, length, map, take, vec_capacity, vec_len, IfErr, IfOk, IsTrue, OnErr, OnOk};
+ghost use Rattle.std.specs.List.{AllPairs};
 ghost use Rattle.causal_deps.specs.declared.record.Item.TheVariants.{Local, External};
-ghost use Rattle.toid_filter.specs.Filters.{has_name, is_due, is_free, is_held_back, is_known, is_passed, new_filter, owns, reached_by, stands_before, with_held, Fits, Follows, IsSound, IsSteady, IsTaken};
+ghost use Rattle.toid_filter.specs.Filters.{before_name, from_name, is_due, is_free, is_held_back, is_known, is_passed, new_filter, owns, reached_by, stands_before, with_held, Fits, Follows, IsSound, IsSteady, IsTaken};
 
 use crate::Champions;
+use crate::held::Held;
 use causal_deps::{Counts, Draft, Item, Record};
 use cz_base::{Back, DcId, Seq, Toid};
 use std::alloc::Global;
@@ -37,7 +36,7 @@ pub struct Filter {
     number: u32,
     map: Champions,
     reached: Counts,
-    held: Vec<Record>,
+    held: Held,
     out: Vec<Item>,
     accepted: Option<Mark>,
 }
@@ -47,9 +46,9 @@ impl Model for Filter {
 
     ghost Value = { FilterState };
 
-    ghost view = { λ f. record { number = f.number; map = f.map; reached = f.reached; held = f.held.items; out = f.out.items; accepted = f.accepted } };
+    ghost view = { λ f. record { number = f.number; map = f.map; reached = f.reached; held = f.held; out = f.out.items; accepted = f.accepted } };
 
-    ghost invariant = { λ f. IsSteady (record { number = f.number; map = f.map; reached = f.reached; held = f.held.items; out = f.out.items; accepted = f.accepted }) };
+    ghost invariant = { λ f. IsSteady (record { number = f.number; map = f.map; reached = f.reached; held = f.held; out = f.out.items; accepted = f.accepted }) };
 }
 
 impl Filter {
@@ -63,7 +62,7 @@ impl Filter {
             number,
             reached: Counts::zero(map.dcs()),
             map,
-            held: Vec::new(alloc),
+            held: Held::new(alloc),
             out: Vec::new(alloc),
             accepted: None,
         }
@@ -95,14 +94,13 @@ impl Filter {
         ensures back { IfErr result (λ back. back.value ≡ rec) }
         ensures sound { IsSound self.new }
     {
-        let at = self.place_of(rec.host, rec.toid);
-        if self.knows(at, rec.host, rec.toid) {
+        if self.knows(rec.host, rec.toid) {
             return Ok(Verdict::Dropped);
         }
         if self.may_pass(&rec) {
-            return self.pass(at, rec);
+            return self.pass(rec);
         }
-        self.held.insert(at, rec)?;
+        self.held.insert(rec)?;
         Ok(Verdict::Held)
     }
 
@@ -129,25 +127,14 @@ impl Filter {
         Seq::from_vec(mem::replace(&mut self.out, Vec::new(self.alloc)))
     }
 
-    /// Where number t of host h stands among the records held, or would stand.
-    fn place_of(&self, h: DcId, t: Toid) -> usize
-        ensures within { result ≤ length self.now.held }
-        ensures place { IsPartitionPoint (λ q. stands_before h t q ≡ true) (λ q. stands_before h t q ≡ false) self.now.held result }
-    {
-        self.held
-            .as_slice()
-            .partition_point(|rec| is_before(rec, h, t))
-    }
-
-    /// Whether the filter passed number t of host h, or holds it at place `at`.
-    fn knows(&self, at: usize, h: DcId, t: Toid) -> bool
+    /// Whether the filter passed or holds number t of host h.
+    fn knows(&self, h: DcId, t: Toid) -> bool
         requires host { h < length self.now.map }
         requires first { 1 ≤ t }
         requires own { owns self.now h t ≡ true }
-        requires place { IsPartitionPoint (λ q. stands_before h t q ≡ true) (λ q. stands_before h t q ≡ false) self.now.held at }
         ensures { result ≡ is_known self.now h t }
     {
-        t <= self.reached.get(h) || is_at(self.held.as_slice(), at, h, t)
+        t <= self.reached.get(h) || self.held.contains(h, t)
     }
 
     /// Whether each smaller own number was passed, and no accepted mark holds the record back.
@@ -171,48 +158,54 @@ impl Filter {
         }
     }
 
-    /// Passes a record that may pass, with the held ones that follow on it, which begin at `at`.
-    fn pass(&mut self, at: usize, rec: Record) -> Result<Verdict, Back<Record>>
+    /// Passes a record that may pass, with the held ones that follow on it.
+    fn pass(&mut self, rec: Record) -> Result<Verdict, Back<Record>>
         requires fits { Fits self.old rec }
         requires new { is_known self.old rec.host rec.toid ≡ false }
         requires free { is_free self.old rec ≡ true }
-        requires place { IsPartitionPoint (λ q. stands_before rec.host rec.toid q ≡ true) (λ q. stands_before rec.host rec.toid q ≡ false) self.old.held at }
-        requires within { at ≤ length self.old.held }
         ensures ok { IfOk result (λ verdict. IsTaken self.old rec verdict self.new) }
         ensures err { OnErr result (self.new ≡ self.old) }
         ensures back { IfErr result (λ back. back.value ≡ rec) }
         ensures sound { IsSound self.new }
     {
-        let until = self.due_until(at, &rec);
-        if self.out.reserve(until - at + 1).is_err() {
+        let count = self.due_count(&rec);
+        if self.out.reserve(count + 1).is_err() {
             return Err(Back { value: rec });
         }
-        self.reached.raise(rec.host, rec.toid);
-        raise_all(&mut self.reached, &self.held.as_slice()[at..until]);
+        let (host, toid) = (rec.host, rec.toid);
+        self.reached.raise(host, toid);
         push_in_room(&mut self.out, Item::External(rec));
-        move_range(&mut self.held, at, until, &mut self.out);
+        pass_first(
+            &mut self.held,
+            host,
+            toid,
+            count,
+            &mut self.reached,
+            &mut self.out,
+        );
         Ok(Verdict::Passed)
     }
 
-    /// Up to which place the held records from `at` on are due once the record that stands there passes.
-    fn due_until(&self, at: usize, rec: &Record) -> usize
+    /// How many of the held records from a new one on are due once that one passes.
+    fn due_count(&self, rec: &Record) -> usize
         requires fits { Fits self.now rec.now }
         requires new { is_known self.now rec.now.host rec.now.toid ≡ false }
         requires free { is_free self.now rec.now ≡ true }
-        requires place { IsPartitionPoint (λ q. stands_before rec.now.host rec.now.toid q ≡ true) (λ q. stands_before rec.now.host rec.now.toid q ≡ false) self.now.held at }
-        requires within { at ≤ length self.now.held }
-        ensures range { (at ≤ result) × (result ≤ length self.now.held) }
-        ensures due { All (λ q. is_due (with_held self.now rec.now) q ≡ true) (slice_range self.now.held at result) }
-        ensures rest { All (λ q. is_due (with_held self.now rec.now) q ≡ false) (drop result self.now.held) }
+        ensures few { result < 2 ^ 63 }
+        ensures within { result ≤ length (from_name rec.now.host rec.now.toid self.now.held) }
+        ensures due { All (λ q. is_due (with_held self.now rec.now) q ≡ true) (take result (from_name rec.now.host rec.now.toid self.now.held)) }
+        ensures rest { All (λ q. is_due (with_held self.now rec.now) q ≡ false) (drop result (from_name rec.now.host rec.now.toid self.now.held)) }
     {
+        let mut count = 0;
         let mut last = rec.toid;
-        for (count, next) in self.held.as_slice()[at..].iter().enumerate() {
+        for (_, next) in self.held.range_from(rec.host, rec.toid) {
             if !self.follows(next, rec.host, last) {
-                return at + count;
+                return count;
             }
             last = next.toid;
+            count += 1;
         }
-        self.held.len()
+        count
     }
 
     /// Whether the record is the next own one of host h after number `last`, with no mark at or below it.
@@ -223,32 +216,6 @@ impl Filter {
             && rec.toid > last
             && !self.map.serves(self.number, h, last + 1, rec.toid)
             && !self.holds_back(h, rec.toid)
-    }
-}
-
-/// Whether number t of host h is the record at place `at`.
-fn is_at(records: &[Record], at: usize, h: DcId, t: Toid) -> bool
-    ensures { result ≡ option_map_or (has_name h t) (slice_get records.now at) false }
-{
-    match records.get(at) {
-        Some(rec) => rec.host == h && rec.toid == t,
-        None => false,
-    }
-}
-
-fn is_before(rec: &Record, h: DcId, t: Toid) -> bool
-    ensures { result ≡ stands_before h t rec.now }
-{
-    rec.host < h || (rec.host == h && rec.toid < t)
-}
-
-/// Raises each host's number to those of the records.
-fn raise_all(reached: &mut Counts, records: &[Record])
-    requires { All (λ r. r.host < length reached.old) records.now }
-    ensures { reached.new ≡ reached_by reached.old records.now }
-{
-    for rec in records {
-        reached.raise(rec.host, rec.toid);
     }
 }
 
@@ -265,14 +232,28 @@ fn push_in_room(out: &mut Vec<Item>, item: Item)
     }
 }
 
-/// The records from place `at` on and before `until` go last, where there is room for them.
-fn move_range(held: &mut Vec<Record>, at: usize, until: usize, out: &mut Vec<Item>)
-    requires range { (at ≤ until) × (until ≤ vec_len held.old) }
-    requires room { vec_len out.old + (until - at) ≤ vec_capacity out.old }
-    ensures kept { held.new.items ≡ remove_range held.old.items at until }
-    ensures moved { out.new.items ≡ out.old.items ++ map External (slice_range held.old.items at until) }
+/// The first held records from number t of host h on pass, where there is room for them.
+fn pass_first(
+    held: &mut Held,
+    h: DcId,
+    t: Toid,
+    count: usize,
+    reached: &mut Counts,
+    out: &mut Vec<Item>,
+)
+    requires within { count ≤ length (from_name h t held.old) }
+    requires room { vec_len out.old + count ≤ vec_capacity out.old }
+    requires rising { AllPairs (λ q r. stands_before r.host r.toid q ≡ true) held.old }
+    requires hosts { All (λ r. r.host < length reached.old) held.old }
+    ensures kept { held.new ≡ before_name h t held.old ++ drop count (from_name h t held.old) }
+    ensures raised { reached.new ≡ reached_by reached.old (take count (from_name h t held.old)) }
+    ensures moved { out.new.items ≡ out.old.items ++ map External (take count (from_name h t held.old)) }
 {
-    for rec in held.drain(at..until) {
+    for _done in 0..count {
+        let Some(rec) = held.remove_first_from(h, t) else {
+            unreachable!();
+        };
+        reached.raise(rec.host, rec.toid);
         push_in_room(out, Item::External(rec));
     }
 }

@@ -1,0 +1,13 @@
+//! All stages of one datacentre, and the turns that they take.
+//!
+//! The model is the datacentre of the stage world: sessions, batchers, filters, queues with the token beside them,
+//! maintainers, vectors, indexers, table, as plain data. The theorem for the layer above: each turn is its equation there,
+//! with its outcome and its events. So what the stages hold goes on standing for a log.
+#![tactic(auto)]
+
+mod done;
+mod session;
+pub mod turns;
+
+pub use done::TurnDone;
+pub use session::Session;

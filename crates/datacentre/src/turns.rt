@@ -1,0 +1,1 @@
+//! The turns of the stages of one datacentre, each lent just the stages that its line names.
