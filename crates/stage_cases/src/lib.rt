@@ -4,6 +4,8 @@
 #![tactic(auto)]
 
 ghost use Rattle.std.specs.Prelude.{◌≡◌, [], ◌∷◌};
+ghost use Rattle.abstract_log.specs.Runs.{IsRun};
+ghost use Rattle.stage_cases.specs.Fitting.{IsInRange};
 ghost use Rattle.stage_cases.specs.Joining.{filter_answers, filter_script, join_answers, join_script};
 ghost use Rattle.stage_cases.specs.Linking.{cause_answers, cause_events, cause_script, lose_answers, lose_events, lose_script, put_of_x, put_of_y, repeat_answers, repeat_events, repeat_script, told_log};
 ghost use Rattle.stage_cases.specs.Pieces.{answers_of, dc_a, dc_b, dc_c, events_in, gone_after, log_after};
@@ -12,6 +14,7 @@ ghost use Rattle.stage_cases.specs.Reading.{behind_answers, behind_events, behin
 /// A read is answered only once the head has passed what its session wrote: while a position below is
 /// empty it waits, though the position that it asks for is filled.
 pub fn a_read_waits_for_its_gap()
+    ensures in_range { IsInRange gap_script }
     ensures answers { answers_of gap_script ≡ gap_answers }
     ensures events { events_in gap_script ≡ gap_events }
 {}
@@ -19,6 +22,7 @@ pub fn a_read_waits_for_its_gap()
 /// A record that comes before the one that its writer was shown is deferred, and both logs have them
 /// in the order of cause and effect.
 pub fn a_record_waits_for_its_cause()
+    ensures in_range { IsInRange cause_script }
     ensures answers { answers_of cause_script ≡ cause_answers }
     ensures events { events_in cause_script ≡ cause_events }
     ensures log_a { log_after cause_script dc_a ≡ put_of_x ∷ [] }
@@ -28,6 +32,7 @@ pub fn a_record_waits_for_its_cause()
 
 /// A message that comes three times is received three times, and its record is added once.
 pub fn a_link_that_repeats()
+    ensures in_range { IsInRange repeat_script }
     ensures answers { answers_of repeat_script ≡ repeat_answers }
     ensures events { events_in repeat_script ≡ repeat_events }
     ensures log_b { log_after repeat_script dc_b ≡ told_log }
@@ -35,6 +40,7 @@ pub fn a_link_that_repeats()
 
 /// A record that the link loses is sent again, until it has arrived.
 pub fn a_link_that_loses()
+    ensures in_range { IsInRange lose_script }
     ensures answers { answers_of lose_script ≡ lose_answers }
     ensures events { events_in lose_script ≡ lose_events }
     ensures log_a { log_after lose_script dc_a ≡ told_log }
@@ -43,6 +49,7 @@ pub fn a_link_that_loses()
 
 /// A look-up waits for the head to reach what its session wrote, and then for the indexer to reach the head.
 pub fn an_indexer_is_behind()
+    ensures in_range { IsInRange behind_script }
     ensures answers { answers_of behind_script ≡ behind_answers }
     ensures events { events_in behind_script ≡ behind_events }
 {}
@@ -50,6 +57,7 @@ pub fn an_indexer_is_behind()
 /// A get-transaction reads all keys at one position. What it may still read is not collected; an older
 /// put of a key goes once the newer one is at or below the floor.
 pub fn two_keys_at_one_position_and_what_is_collected()
+    ensures in_range { IsInRange collect_script }
     ensures answers { answers_of collect_script ≡ collect_answers }
     ensures events { events_in collect_script ≡ collect_events }
     ensures log { log_after collect_script dc_a ≡ collect_log }
@@ -58,18 +66,32 @@ pub fn two_keys_at_one_position_and_what_is_collected()
 
 /// Maintainers and a queue join; a mark that is not above the last start is late.
 pub fn members_join()
+    ensures in_range { IsInRange join_script }
     ensures answers { answers_of join_script ≡ join_answers }
     ensures events { events_in join_script ≡ [] }
 {}
 
 /// One filter more serves a host, once every filter has accepted the mark.
 pub fn one_filter_more()
+    ensures in_range { IsInRange filter_script }
     ensures answers { answers_of filter_script ≡ filter_answers }
     ensures events { events_in filter_script ≡ [] }
 {}
 
 /// A session whose vector is below the collection floor does not read until it has heard more.
 pub fn the_floor_and_a_head_below_it()
+    ensures in_range { IsInRange floor_script }
     ensures answers { answers_of floor_script ≡ floor_answers }
     ensures events { events_in floor_script ≡ floor_events }
+{}
+
+/// The events of these cases are runs of the log, by the law of schedules.
+pub fn the_cases_are_runs()
+    ensures gap { IsRun gap_script.workload gap_events }
+    ensures cause { IsRun cause_script.workload cause_events }
+    ensures repeat { IsRun repeat_script.workload repeat_events }
+    ensures lose { IsRun lose_script.workload lose_events }
+    ensures behind { IsRun behind_script.workload behind_events }
+    ensures collect { IsRun collect_script.workload collect_events }
+    ensures floor { IsRun floor_script.workload floor_events }
 {}
