@@ -7,8 +7,10 @@ use Rattle.stage_world.specs.Schedules.{IsStep}
 use Rattle.stage_world.proofs.AllTurns.{schedule}
 use Rattle.stage_cases.specs.Pieces.{events_in}
 use Rattle.stage_cases.specs.Fitting.{IsInRange}
-use Rattle.stage_cases.specs.Reading.{gap_script, behind_script, collect_script, floor_script}
+use Rattle.stage_cases.specs.Reading.{gap_script, behind_script, collect_script, floor_script, asked_script}
 use Rattle.stage_cases.specs.Linking.{cause_script, repeat_script, lose_script}
+use Rattle.stage_cases.specs.Idling.{idle_script}
+use Rattle.stage_cases.specs.Sharing.{late_script, handed_script}
 
 pub played : (script : Script) → IsInRange script → IsRun script.workload (events_in script)
 played script within = (schedule script script.steps within.fits within.steps).0
@@ -33,3 +35,15 @@ repeat_in_range = record { fits = search rules; steps = All-from_recursion (IsSt
 
 pub lose_in_range : IsInRange lose_script
 lose_in_range = record { fits = search rules; steps = All-from_recursion (IsStep lose_script.workload) lose_script.steps (search rules) }
+
+pub idle_in_range : IsInRange idle_script
+idle_in_range = record { fits = search rules; steps = All-from_recursion (IsStep idle_script.workload) idle_script.steps (search rules) }
+
+pub late_in_range : IsInRange late_script
+late_in_range = record { fits = search rules; steps = All-from_recursion (IsStep late_script.workload) late_script.steps (search rules) }
+
+pub handed_in_range : IsInRange handed_script
+handed_in_range = record { fits = search rules; steps = All-from_recursion (IsStep handed_script.workload) handed_script.steps (search rules) }
+
+pub asked_in_range : IsInRange asked_script
+asked_in_range = record { fits = search rules; steps = All-from_recursion (IsStep asked_script.workload) asked_script.steps (search rules) }

@@ -3,3 +3,6 @@ pub mod Reading
 pub mod Linking
 pub mod Joining
 pub mod Fitting
+pub mod Idling
+pub mod Sharing
+pub mod Limits

@@ -32,12 +32,15 @@ dc_b = 1
 abbrev pub dc_c : ℕ
 dc_c = 2
 
--- the keys x and y, and the bodies 1, 2, 3, a, b and c, as their bytes
+-- the keys x and y, the tag t, and the bodies 1, 2, 3, a, b and c, as their bytes
 abbrev pub key_x : List ℕ
 key_x = 120 ∷ []
 
 abbrev pub key_y : List ℕ
 key_y = 121 ∷ []
+
+abbrev pub tag_t : List ℕ
+tag_t = 116 ∷ []
 
 abbrev pub body_1 : List ℕ
 body_1 = 49 ∷ []

@@ -2,9 +2,10 @@
 use Rattle.std.specs.Prelude.{List, [], ◌∷◌}
 use Rattle.causal_deps.specs.declared.record.Record.{Record}
 use Rattle.causal_deps.specs.declared.record.Kind.TheVariants.{Append as AppendKind}
-use Rattle.abstract_log.specs.declared.command.Command.TheVariants.{Append as AppendCommand, Put, Get, Tx, Read as ReadCommand}
-use Rattle.abstract_log.specs.declared.answer.Answer.TheVariants.{Items, Read}
-use Rattle.abstract_log.specs.declared.answer.ReadAnswer.TheVariants.{Shown}
+use Rattle.abstract_log.specs.declared.command.Command.TheVariants.{Append as AppendCommand, Put, Get, Tx, Read as ReadCommand, Last as LastCommand}
+use Rattle.abstract_log.specs.declared.answer.Answer.TheVariants.{Items, Read, Last}
+use Rattle.abstract_log.specs.declared.answer.Found.TheVariants.{Absent as AbsentKey}
+use Rattle.abstract_log.specs.declared.answer.ReadAnswer.TheVariants.{Shown, Beyond, Gone}
 use Rattle.abstract_log.specs.declared.event.Event.{Event}
 use Rattle.abstract_log.specs.declared.event.Event.TheVariants.{Submit, Append, Reply, Learn as LearnEvent, Collect as CollectEvent}
 use Rattle.abstract_log.specs.declared.script.Outcome.{Outcome}
@@ -12,7 +13,7 @@ use Rattle.abstract_log.specs.declared.script.Outcome.TheVariants.{Submitted, Re
 use Rattle.abstract_log.specs.declared.script.Script.{Script}
 use Rattle.abstract_log.specs.declared.script.Step.TheVariants.{Client, Place, Gossip, Post, Learn, Floor, Collect}
 use Rattle.stage_world.specs.Opening.{one_of_each}
-use Rattle.stage_cases.specs.Pieces.{dc_a, key_x, key_y, body_1, body_2, body_3, body_a, body_b, body_c, session_at, two_maintainers, to_log, place, draft_passed, logged, placed, found, put_record}
+use Rattle.stage_cases.specs.Pieces.{dc_a, key_x, key_y, tag_t, body_1, body_2, body_3, body_a, body_b, body_c, session_at, two_maintainers, to_log, place, draft_passed, logged, placed, found, put_record}
 
 -- Rounds of 2 and two maintainers: positions 1 and 2 are the first's, 3 the second's. Position 3 is placed first, so session 1, whose own
 -- record is at 2, waits with its read of 3 until 1 and 2 are placed too.
@@ -162,4 +163,48 @@ floor_events =
     ∷ Submit 0 3 ∷ Append dc_a 0 3 3 3
     ∷ Submit 1 1
     ∷ Reply dc_a 1 1 3 (Items (found 3 dc_a 3 body_3 ∷ []))
+    ∷ []
+
+-- The last two records with a tag, before there is one and among three, one of which has it twice; a key that was never put; a position beyond
+-- the head, and one that is collected.
+abbrev pub asked_script : Script
+asked_script = record {
+  workload = record {
+    dcs = 1;
+    sessions =
+        session_at dc_a
+        (LastCommand tag_t 2
+        ∷ AppendCommand (tag_t ∷ []) body_a ∷ AppendCommand (tag_t ∷ tag_t ∷ []) body_b ∷ AppendCommand (tag_t ∷ []) body_c
+        ∷ LastCommand tag_t 2 ∷ Get key_x ∷ ReadCommand 4 ∷ ReadCommand 2 ∷ [])
+        ∷ [];
+  };
+  round = 1;
+  sizes = one_of_each ∷ [];
+  steps =
+      Client 0
+      ∷ Client 0 ∷ to_log dc_a (Client 0 ∷ to_log dc_a (Client 0 ∷ to_log dc_a
+      (Place dc_a 0 0 ∷ Gossip dc_a 0 0 ∷ Post dc_a 0 0
+      ∷ Client 0 ∷ Client 0 ∷ Client 0
+      ∷ Learn dc_a ∷ Floor dc_a 3 ∷ Collect dc_a 0
+      ∷ Client 0 ∷ [])));
+}
+
+abbrev pub asked_answers : List Outcome
+asked_answers =
+    Replied 1
+    ∷ Submitted 2 ∷ logged (draft_passed 0 2) 1 dc_a 1 (Submitted 3 ∷ logged (draft_passed 0 3) 2 dc_a 2 (Submitted 4 ∷ logged (draft_passed 0 4) 3 dc_a 3
+    (Placed (1 ∷ 2 ∷ 3 ∷ []) ∷ Head 3 ∷ Covered 3
+    ∷ Replied 5 ∷ Replied 6 ∷ Replied 7
+    ∷ Learnt (3 ∷ []) ∷ FloorAt 3 ∷ Collected (1 ∷ 2 ∷ 3 ∷ [])
+    ∷ Replied 8 ∷ [])))
+
+abbrev pub asked_events : List Event
+asked_events =
+    Submit 0 1 ∷ Reply dc_a 0 1 0 (Last [])
+    ∷ Submit 0 2 ∷ Append dc_a 0 2 1 1 ∷ Submit 0 3 ∷ Append dc_a 0 3 2 2 ∷ Submit 0 4 ∷ Append dc_a 0 4 3 3
+    ∷ Submit 0 5 ∷ Reply dc_a 0 5 3 (Last (place 2 dc_a 2 ∷ place 3 dc_a 3 ∷ []))
+    ∷ Submit 0 6 ∷ Reply dc_a 0 6 3 (Items (AbsentKey ∷ []))
+    ∷ Submit 0 7 ∷ Reply dc_a 0 7 3 (Read Beyond)
+    ∷ LearnEvent dc_a (3 ∷ []) ∷ CollectEvent dc_a 1 ∷ CollectEvent dc_a 2 ∷ CollectEvent dc_a 3
+    ∷ Submit 0 8 ∷ Reply dc_a 0 8 3 (Read Gone)
     ∷ []

@@ -6,10 +6,13 @@
 ghost use Rattle.std.specs.Prelude.{◌≡◌, [], ◌∷◌};
 ghost use Rattle.abstract_log.specs.Runs.{IsRun};
 ghost use Rattle.stage_cases.specs.Fitting.{IsInRange};
+ghost use Rattle.stage_cases.specs.Idling.{idle_answers, idle_script};
 ghost use Rattle.stage_cases.specs.Joining.{filter_answers, filter_script, join_answers, join_script};
+ghost use Rattle.stage_cases.specs.Limits.{full_link_answers, full_link_script, sixteen_answers, sixteen_script};
 ghost use Rattle.stage_cases.specs.Linking.{cause_answers, cause_events, cause_script, lose_answers, lose_events, lose_script, put_of_x, put_of_y, repeat_answers, repeat_events, repeat_script, told_log};
 ghost use Rattle.stage_cases.specs.Pieces.{answers_of, dc_a, dc_b, dc_c, events_in, gone_after, log_after};
-ghost use Rattle.stage_cases.specs.Reading.{behind_answers, behind_events, behind_script, collect_answers, collect_events, collect_log, collect_script, floor_answers, floor_events, floor_script, gap_answers, gap_events, gap_script};
+ghost use Rattle.stage_cases.specs.Reading.{asked_answers, asked_events, asked_script, behind_answers, behind_events, behind_script, collect_answers, collect_events, collect_log, collect_script, floor_answers, floor_events, floor_script, gap_answers, gap_events, gap_script};
+ghost use Rattle.stage_cases.specs.Sharing.{handed_answers, handed_script, late_answers, late_script};
 
 /// A read is answered only once the head has passed what its session wrote: while a position below is
 /// empty it waits, though the position that it asks for is filled.
@@ -85,6 +88,43 @@ pub fn the_floor_and_a_head_below_it()
     ensures events { events_in floor_script ≡ floor_events }
 {}
 
+/// A session is told of tags, keys and positions that are there, and of those that are not: beyond the
+/// head, never put, or collected.
+pub fn a_session_asks_for_what_is_not_there()
+    ensures in_range { IsInRange asked_script }
+    ensures answers { answers_of asked_script ≡ asked_answers }
+    ensures events { events_in asked_script ≡ asked_events }
+{}
+
+/// While filters are asked, what the announced filter may come to pass waits. A filter that has passed
+/// the mark calls it off, and what waited goes on.
+pub fn a_mark_that_is_late()
+    ensures in_range { IsInRange late_script }
+    ensures answers { answers_of late_script ≡ late_answers }
+{}
+
+/// A filter more takes over the records that waited and are its own by the grown map.
+pub fn a_new_filter_takes_over()
+    ensures in_range { IsInRange handed_script }
+    ensures answers { answers_of handed_script ≡ handed_answers }
+{}
+
+/// A turn with nothing to do says so, and so does a turn of a member that is not there.
+pub fn members_with_nothing_to_do()
+    ensures in_range { IsInRange idle_script }
+    ensures answers { answers_of idle_script ≡ idle_answers }
+{}
+
+/// No stage has a seventeenth member.
+pub fn sixteen_members_at_most()
+    ensures answers { answers_of sixteen_script ≡ sixteen_answers }
+{}
+
+/// Of 65 messages in a link the oldest is lost.
+pub fn a_full_link_loses_its_oldest()
+    ensures answers { answers_of full_link_script ≡ full_link_answers }
+{}
+
 /// The events of these cases are runs of the log, by the law of schedules.
 pub fn the_cases_are_runs()
     ensures gap { IsRun gap_script.workload gap_events }
@@ -94,4 +134,5 @@ pub fn the_cases_are_runs()
     ensures behind { IsRun behind_script.workload behind_events }
     ensures collect { IsRun collect_script.workload collect_events }
     ensures floor { IsRun floor_script.workload floor_events }
+    ensures asked { IsRun asked_script.workload asked_events }
 {}

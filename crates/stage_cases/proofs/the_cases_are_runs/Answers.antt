@@ -1,6 +1,6 @@
-use Rattle.stage_cases.specs.Reading.{gap_script, behind_script, collect_script, floor_script}
+use Rattle.stage_cases.specs.Reading.{gap_script, behind_script, collect_script, floor_script, asked_script}
 use Rattle.stage_cases.specs.Linking.{cause_script, repeat_script, lose_script}
-use Rattle.stage_cases.proofs.Ranges.{played, gap_in_range, behind_in_range, collect_in_range, floor_in_range, cause_in_range, repeat_in_range, lose_in_range}
+use Rattle.stage_cases.proofs.Ranges.{played, gap_in_range, behind_in_range, collect_in_range, floor_in_range, cause_in_range, repeat_in_range, lose_in_range, asked_in_range}
 use Rattle.stage_cases.proofs.the_cases_are_runs.Goals as goal
 
 pub returns-clause-gap : goal.returns-clause-gap
@@ -23,3 +23,6 @@ returns-clause-collect c = played collect_script collect_in_range
 
 pub returns-clause-floor : goal.returns-clause-floor
 returns-clause-floor c = played floor_script floor_in_range
+
+pub returns-clause-asked : goal.returns-clause-asked
+returns-clause-asked c = played asked_script asked_in_range
