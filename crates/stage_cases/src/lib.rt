@@ -22,8 +22,8 @@ pub fn a_read_waits_for_its_gap()
     ensures events { events_in gap_script ≡ gap_events }
 {}
 
-/// A record that comes before the one that its writer was shown is deferred, and both logs have them
-/// in the order of cause and effect.
+/// A record that comes before one that its writer was shown is deferred until that one is there: each
+/// log has the cause before the effect.
 pub fn a_record_waits_for_its_cause()
     ensures in_range { IsInRange cause_script }
     ensures answers { answers_of cause_script ≡ cause_answers }
