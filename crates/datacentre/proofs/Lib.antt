@@ -1,0 +1,4 @@
+pub mod StampedItems
+pub mod AckLemmas
+pub mod RingLemmas
+pub mod StampLemmas
