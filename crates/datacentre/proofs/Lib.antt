@@ -2,3 +2,5 @@ pub mod StampedItems
 pub mod AckLemmas
 pub mod RingLemmas
 pub mod StampLemmas
+pub mod LawfulAfter
+pub mod StampStands
