@@ -4,3 +4,4 @@ pub mod RingLemmas
 pub mod StampLemmas
 pub mod LawfulAfter
 pub mod StampStands
+pub mod StampTurns

@@ -34,7 +34,7 @@ use Rattle.datacentre.specs.Stamping.{IsNewAt, MayStamp, drained_of, items_of}
 use Rattle.datacentre.proofs.LawfulAfter.{lawful_after}
 use Rattle.datacentre.proofs.RingLemmas.{token_is}
 
-queue_seen : (qs zs : List QueueState) (i : ℕ) → queues_seen qs ≡ zs → tokenless (queue_at qs i) ≡ queue_at zs i
+pub queue_seen : (qs zs : List QueueState) (i : ℕ) → queues_seen qs ≡ zs → tokenless (queue_at qs i) ≡ queue_at zs i
 queue_seen qs zs i seen = sym (get_or-map tokenless qs i no_queue) ∙ ap (λ xs. queue_at xs i) seen
 
 as_many : (qs zs : List QueueState) → queues_seen qs ≡ zs → length zs ≡ length qs
