@@ -6,7 +6,9 @@
 #![tactic(auto)]
 
 mod done;
+mod ring;
 mod session;
+mod stamping;
 pub mod turns;
 
 pub use done::TurnDone;
