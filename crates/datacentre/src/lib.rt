@@ -5,7 +5,10 @@
 //! with its outcome and its events. So what the stages hold goes on standing for a log.
 #![tactic(auto)]
 
+mod client;
+mod commands;
 mod done;
+mod flushing;
 mod session;
 pub mod turns;
 
