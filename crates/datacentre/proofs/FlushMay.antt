@@ -11,24 +11,18 @@ use Rattle.stage_world.specs.Stages.{Datacentre, batcher_at, queue_at}
 use Rattle.stage_world.specs.StandsFor.{StandsAt, IsDue}
 use Rattle.datacentre.specs.Flushing.{AreServing, IsOfHosts, MayFlush}
 
+of_host : (w : World) (d : ℕ) (hosts : ℕ) (x : Item) → w.workload.dcs ≡ hosts → IsDue w.workload w.sessions w.logs (pending_of w d) d x → IsOfHosts hosts x
+of_host w d hosts (Local draft) same due = tt
+of_host w d hosts (External r) same due = (omega (arith, same, due.valid.host), due.valid.first)
+
 pub may_flush : (w : World) (d : ℕ) (z : Datacentre) (b : ℕ) → b < length z.batchers → StandsAt w d z → MayFlush z.map z.filters (batcher_at z.batchers b)
-may_flush w d z b there h = record {
-  serving = record { one_map = h.sound.one_map; numbers = h.sound.numbers; there = h.sound.there; few = h.members.ranges.filters.1 };
-  of_hosts = λ k e within. of_host (get k e) (all k e within);
-}
-  where
-    abbrev D : Item → Type 0
-    D = IsDue w.workload w.sessions w.logs (pending_of w d) d
-
-    get : ℕ → Item → Item
-    get k e = get_or (batcher_at z.batchers b) k e
-
-    all : All D (batcher_at z.batchers b)
-    all = All-get_or (All D) z.batchers b [] there h.under_way.due.batchers
-
-    of_host : (x : Item) → D x → IsOfHosts (length z.map) x
-    of_host (Local draft) due = tt
-    of_host (External r) due = (omega (arith, h.mapped, due.valid.host), due.valid.first)
+may_flush w d z b there h =
+    let all : All (IsDue w.workload w.sessions w.logs (pending_of w d) d) (batcher_at z.batchers b) =
+    All-get_or (All (IsDue w.workload w.sessions w.logs (pending_of w d) d)) z.batchers b [] there h.under_way.due.batchers in
+    record {
+      serving = record { one_map = h.sound.one_map; numbers = h.sound.numbers; there = h.sound.there; few = h.members.ranges.filters.1 };
+      of_hosts = λ k e within. of_host w d (length z.map) (get_or (batcher_at z.batchers b) k e) (sym h.mapped) (all k e within);
+    }
 
 -- where the lent queue has the token or not, what it has after a pass is seen as the turn leaves it
 pub pass_seen : (lent q : QueueState) (items : List Item) → tokenless lent ≡ q → tokenless (record lent { items = lent.items ++ items }) ≡ record q { items = q.items ++ items }

@@ -12,6 +12,7 @@ use crate::Session;
 use abstract_log::{Command, ReadAnswer};
 use causal_deps::{Counts, Draft, Kind};
 use cz_base::{Lid, NoMemory, Seq};
+use std::alloc::Global;
 
 impl Session {
     /// Whether its turn is that of a write: its open or next command is an append or a put, or none is
@@ -70,7 +71,13 @@ impl Session {
         ensures { IfOk result (λ draft. draft ≡ next_draft self.now) }
     {
         match self.next() {
-            Some(command) => draft_of(self.number, self.index(), &self.standing.past, command),
+            Some(command) => draft_of(
+                self.commands.alloc(),
+                self.number,
+                self.index(),
+                &self.standing.past,
+                command,
+            ),
             None => Ok(None),
         }
     }
@@ -126,6 +133,7 @@ fn position_in(command: &Command) -> Option<Lid>
 }
 
 fn draft_of(
+    alloc: Global,
     session: u32,
     index: u32,
     past: &Counts,
@@ -143,7 +151,7 @@ fn draft_of(
             dep: *past,
         })),
         Command::Put { key, body } => {
-            let mut tags = Seq::new(key.alloc());
+            let mut tags = Seq::new(alloc);
             tags.push(key.copy()?)?;
             Ok(Some(Draft {
                 session,

@@ -1,4 +1,4 @@
 //! The turns of the stages of one datacentre, each lent just the stages that its line names.
 
-pub use crate::client::client_write;
+pub use crate::client::{client_read, client_write};
 pub use crate::flushing::{flush, pass};
