@@ -1,3 +1,4 @@
 pub mod Flushes
 pub mod FlushMay
 pub mod ReadLemmas
+pub mod ClientMay
