@@ -1,2 +1,4 @@
 pub mod Lent
 pub mod Stamping
+pub mod Flushing
+pub mod Clients

@@ -5,8 +5,11 @@
 //! with its outcome and its events. So what the stages hold goes on standing for a log.
 #![tactic(auto)]
 
+mod client;
+mod commands;
 mod done;
 mod ring;
+mod flushing;
 mod session;
 mod stamping;
 pub mod turns;
