@@ -1,0 +1,3 @@
+pub mod PlacingLemmas
+pub mod LearningLemmas
+pub mod TellingLemmas

@@ -1,1 +1,4 @@
 pub mod Lent
+pub mod Placing
+pub mod Telling
+pub mod Learning

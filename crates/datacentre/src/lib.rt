@@ -6,7 +6,10 @@
 #![tactic(auto)]
 
 mod done;
+mod learning;
+mod placing;
 mod session;
+mod telling;
 pub mod turns;
 
 pub use done::TurnDone;
