@@ -2,3 +2,6 @@ pub mod Lent
 pub mod Stamping
 pub mod Flushing
 pub mod Clients
+pub mod Placing
+pub mod Telling
+pub mod Learning

@@ -12,6 +12,9 @@ mod ring;
 mod flushing;
 mod session;
 mod stamping;
+mod learning;
+mod placing;
+mod telling;
 pub mod turns;
 
 pub use done::TurnDone;
