@@ -6,7 +6,10 @@
 #![tactic(auto)]
 
 mod done;
+mod receiving;
+mod sender_stock;
 mod session;
+mod stocking;
 pub mod turns;
 
 pub use done::TurnDone;
