@@ -1,1 +1,2 @@
 pub mod StockLemmas
+pub mod NewsLemmas

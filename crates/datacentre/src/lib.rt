@@ -8,6 +8,7 @@
 mod done;
 mod receiving;
 mod sender_stock;
+mod sending;
 mod session;
 mod stocking;
 pub mod turns;
