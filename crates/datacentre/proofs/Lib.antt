@@ -12,3 +12,5 @@ pub mod ClientMay
 pub mod PlacingLemmas
 pub mod LearningLemmas
 pub mod TellingLemmas
+pub mod StockLemmas
+pub mod NewsLemmas

@@ -15,6 +15,10 @@ mod stamping;
 mod learning;
 mod placing;
 mod telling;
+mod receiving;
+mod sender_stock;
+mod sending;
+mod stocking;
 pub mod turns;
 
 pub use done::TurnDone;
