@@ -74,7 +74,7 @@ pub fn record(alloc: Global, host: u32, toid: Toid, needs: [u64; 3]) -> Result<I
     }))
 }
 
-pub fn draft(alloc: Global, session: u32, needs: [u64; 3]) -> Result<Item, NoMemory>
+fn draft(alloc: Global, session: u32, needs: [u64; 3]) -> Result<Item, NoMemory>
     ensures { IfOk result (λ item. FitsItem 3 item) }
 {
     Ok(Item::Local(Draft {
@@ -186,14 +186,17 @@ pub fn put(queue: &mut Queue, items: Seq<Item>) -> Result<(), NoMemory>
     }
 }
 
-// The token goes from one queue to another, if that has none.
-pub fn hand_on(from: &mut Queue, to: &mut Queue)
+// The token goes from one queue to another, if that has none. Answers which queue it named as the next.
+pub fn hand_on(from: &mut Queue, to: &mut Queue) -> Option<u32>
     ensures { to.new.items ≡ to.old.items }
 {
     if to.token().is_some() {
-        return;
+        return None;
     }
-    if let Some(token) = from.give() {
-        to.hold(token);
-    }
+    let Some(token) = from.give() else {
+        return None;
+    };
+    let next = token.next_queue();
+    to.hold(token);
+    Some(next)
 }

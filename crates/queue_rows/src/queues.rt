@@ -1,7 +1,7 @@
-ghost use Rattle.std.specs.Prelude.{◌<◌, All, IfOk};
+ghost use Rattle.std.specs.Prelude.{◌<◌, ◌≤◌, length, All, IfOk};
 ghost use Rattle.token_queue.specs.Items.{FitsItem};
 
-use crate::given::{Given, dc, draft, hand_on, holder, items_of, numbers, put, record, stamp};
+use crate::given::{Given, MANY, dc, hand_on, holder, items_of, numbers, put, record, stamp};
 use causal_deps::{Item, Place};
 use cz_base::{Lid, NoMemory, Seq, Toid};
 use flstore_rounds::Epochs;
@@ -116,9 +116,16 @@ fn are_stamps(stamps: &Seq<Stamp>, names: &[Name]) -> bool {
     stamps.len() == names.len()
 }
 
+// What is stamped where a queue that has no items gets these.
+fn stamped(rt: &impl Abort, queue: &mut Queue, items: Seq<Item>) -> Result<Seq<Stamp>, Fail>
+    requires { All (FitsItem 3) items }
+{
+    put(queue, items)?;
+    Ok(stamp(rt, queue)?)
+}
+
 fn holds(rt: &impl Abort, alloc: Global, queue: &mut Queue, part: &Part) -> Result<(), Fail> {
-    put(queue, items_of(alloc, part.given)?)?;
-    let stamps = stamp(rt, queue)?;
+    let stamps = stamped(rt, queue, items_of(alloc, part.given)?)?;
     assert!(rt; are_stamps(&stamps, part.stamped));
     assert!(rt; queue.is_empty());
     let (_, _, deferred) = numbers(queue);
@@ -172,45 +179,68 @@ fn chain(alloc: Global) -> Result<Seq<Item>, NoMemory>
     Ok(items)
 }
 
-fn one(alloc: Global, item: Item) -> Result<Seq<Item>, NoMemory>
-    requires { FitsItem 3 item }
-    ensures { IfOk result (λ items. All (FitsItem 3) items) }
-{
-    let mut items = Seq::new(alloc);
-    items.push(item)?;
-    Ok(items)
+const FIRST: [Given; 1] = [Given::Record {
+    host: 1,
+    toid: 1,
+    needs: [0, 0, 0],
+}];
+
+// A queue of which a hundred items are deferred.
+fn chained(rt: &impl Abort, alloc: Global) -> Result<Queue, Fail> {
+    let mut queue = holder(alloc, 0, 1)?;
+    let stamps = stamped(rt, &mut queue, chain(alloc)?)?;
+    assert!(rt; stamps.is_empty());
+    assert_eq!(rt; numbers(&queue), ([0, 0, 0], 0, 100));
+    Ok(queue)
+}
+
+// Whether the stamps are those of the records 1 to 101 of host 1, in this order.
+fn are_chain(stamps: &Seq<Stamp>) -> bool {
+    let mut number: u64 = 0;
+    for stamp in stamps.as_slice() {
+        number = number.saturating_add(1);
+        if *stamp != stamp_of(&(number, 1, number, 1)) {
+            return false;
+        }
+    }
+    stamps.len() == 101
 }
 
 #[test]
 fn a_chain_waits_for_its_first(rt: HostRuntime) -> Result<(), Fail> {
     let alloc = rt.alloc();
-    let mut queue = holder(alloc, 0, 1)?;
-    put(&mut queue, chain(alloc)?)?;
-    assert_eq!(rt; stamp(&rt, &mut queue)?.len(), 0);
-    assert_eq!(rt; numbers(&queue), ([0, 0, 0], 0, 100));
-    put(&mut queue, one(alloc, record(alloc, 1, 1, [0, 0, 0])?)?)?;
-    let stamps = stamp(&rt, &mut queue)?;
+    let mut queue = chained(&rt, alloc)?;
+    let stamps = stamped(&rt, &mut queue, items_of(alloc, &FIRST)?)?;
+    assert!(rt; are_chain(&stamps));
     assert_eq!(rt; numbers(&queue), ([0, 101, 0], 101, 0));
-    assert_eq!(rt; stamps.len(), 101);
-    for (at, stamp) in stamps.iter().enumerate() {
-        let number = (at as u64).saturating_add(1);
-        assert_eq!(rt; *stamp, stamp_of(&(number, 1, number, 1)));
-    }
     Ok(())
+}
+
+const ALONE: [Given; 1] = [Given::Draft {
+    session: 4,
+    needs: [0, 0, 0],
+}];
+
+// A queue that has an item but not the token, and so stamps nothing.
+fn waiting(rt: &impl Abort, alloc: Global) -> Result<Queue, Fail>
+    ensures items { IfOk result (λ queue. All (FitsItem 3) queue.items) }
+    ensures few { IfOk result (λ queue. length queue.items ≤ MANY) }
+{
+    let mut queue = Queue::new(alloc, 1, Epochs::first(alloc, 1, 1)?)?;
+    put(&mut queue, items_of(alloc, &ALONE)?)?;
+    let Err(StampFault::NoToken) = stamp(rt, &mut queue) else {
+        return Err(Fail::from("a stamping without the token"));
+    };
+    Ok(queue)
 }
 
 #[test]
 fn a_queue_stamps_only_with_the_token(rt: HostRuntime) -> Result<(), Fail> {
     let alloc = rt.alloc();
     let mut first = holder(alloc, 0, 1)?;
-    let mut second = Queue::new(alloc, 1, Epochs::first(alloc, 1, 1)?)?;
-    put(&mut second, one(alloc, draft(alloc, 4, [0, 0, 0])?)?)?;
-    let Err(StampFault::NoToken) = stamp(&rt, &mut second) else {
-        return Err(Fail::from("a stamping without the token"));
-    };
+    let mut second = waiting(&rt, alloc)?;
     assert!(rt; !second.is_empty());
-    assert_eq!(rt; first.token().map_or(0, |token| token.next_queue()), 1);
-    hand_on(&mut first, &mut second);
+    assert_eq!(rt; hand_on(&mut first, &mut second), Some(1));
     assert!(rt; first.give().is_none());
     assert!(rt; are_stamps(&stamp(&rt, &mut second)?, &[(1, 0, 1, 4)]));
     Ok(())
