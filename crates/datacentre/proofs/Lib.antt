@@ -2,3 +2,4 @@ pub mod Flushes
 pub mod FlushMay
 pub mod ReadLemmas
 pub mod ClientMay
+pub mod ClientIs
