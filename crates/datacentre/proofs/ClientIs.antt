@@ -1,5 +1,5 @@
 -- What client_write and client_read leave and tell is the turn of the session, among all stages.
-use Rattle.std.proofs.Common.{◌≡◌, ℕ, zero, suc, ◌<◌, ◌%◌, Bool, true, false, cond, eqb, nat_lt, List, [], ◌∷◌, ◌++◌, Option, Some, None, IsSome, length, map, get_or, set, refl, ap, ap₂, sym, ◌∙◌, subst, arith}
+use Rattle.std.proofs.Common.{◌≡◌, ℕ, zero, suc, ◌<◌, Bool, true, false, cond, eqb, nat_lt, List, [], ◌∷◌, ◌++◌, Option, Some, None, IsSome, length, map, get_or, set, refl, ap, ap₂, sym, ◌∙◌, arith}
 use Rattle.std.specs.List.{All, AllPairs}
 use Rattle.std.specs.Option.{option_and_then, option_map_or, unwrap_or}
 use Rattle.std.proofs.lemmas.Bool.{eq-eqb, ne_eqb}
@@ -7,7 +7,6 @@ use Rattle.std.proofs.lemmas.List.{get_or-map, length-map, set-get_or}
 use Rattle.std.proofs.lemmas.List.Elements.{All-head, All-tail}
 use Rattle.causal_deps.specs.declared.record.Record.{Record}
 use Rattle.causal_deps.specs.declared.record.Draft.{Draft}
-use Rattle.causal_deps.specs.declared.record.Item.{Item}
 use Rattle.abstract_log.specs.declared.answer.Answer.TheVariants.{Read}
 use Rattle.abstract_log.specs.declared.answer.ReadAnswer.{ReadAnswer}
 use Rattle.abstract_log.specs.declared.answer.ReadAnswer.TheVariants.{Beyond, Gone}
@@ -128,9 +127,9 @@ module _ (d : ℕ) (z : Datacentre) (i : ℕ) (x : Session) (rise : AllPairs (λ
   module _ (shown : ReadAnswer) where
     open_by : (b : Bool) → x.standing.begun ≡ true
         → cond b (quiet (Waiting (next_index x) x.standing.floor top) z)
-            (turned (record z { sessions = at_session x.number (replied (Read shown) top) z.sessions }) (Replied (next_index x)) (Reply d x.number (next_index x) top (Read shown) ∷ []))
+        (turned (record z { sessions = at_session x.number (replied (Read shown) top) z.sessions }) (Replied (next_index x)) (Reply d x.number (next_index x) top (Read shown) ∷ []))
         ≡ turned (record z { sessions = set z.sessions i (cond b (begun x) (replied (Read shown) top x)) }) (cond b (Waiting (next_index x) x.standing.floor top) (Replied (next_index x)))
-            (cond b [] (Reply d x.number (next_index x) top (Read shown) ∷ []))
+        (cond b [] (Reply d x.number (next_index x) top (Read shown) ∷ []))
     open_by true opened =
         let same : begun x ≡ x = ap (λ v. record x { standing = record x.standing { begun = v } }) (sym opened) in
         same_quiet (Waiting (next_index x) x.standing.floor top) ∙ ap (λ y. quiet (Waiting (next_index x) x.standing.floor top) (record z { sessions = set z.sessions i y })) (sym same)
@@ -143,7 +142,7 @@ module _ (d : ℕ) (z : Datacentre) (i : ℕ) (x : Session) (rise : AllPairs (λ
 
     begun_by : (b : Bool) → turned (begun_turn b).after (begun_turn b).outcome (Submit x.number (next_index x) ∷ (begun_turn b).events)
         ≡ turned (record z { sessions = set z.sessions i (cond b (begun x) (replied (Read shown) top x)) }) (cond b (Waiting (next_index x) x.standing.floor top) (Replied (next_index x)))
-            (Submit x.number (next_index x) ∷ cond b [] (Reply d x.number (next_index x) top (Read shown) ∷ []))
+        (Submit x.number (next_index x) ∷ cond b [] (Reply d x.number (next_index x) top (Read shown) ∷ []))
     begun_by true = ap (λ ss. turned (record z { sessions = ss }) (Waiting (next_index x) x.standing.floor top) (Submit x.number (next_index x) ∷ [])) (changed begun)
     begun_by false =
         ap (λ ss. turned (record z { sessions = ss }) (Replied (next_index x)) (Submit x.number (next_index x) ∷ Reply d x.number (next_index x) top (Read shown) ∷ []))
