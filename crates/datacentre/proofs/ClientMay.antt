@@ -181,13 +181,13 @@ module _ (w : World) (d : ℕ) (z : Datacentre) (lawful : IsLawful w) (h : Stand
         by_command (Some c) is some = by_position c (position_in c) is refl some
 
     -- a session whose turn is that of a read may take it at lent maintainers, whatever room they have
-    pub may_read : (lent : List (MaintainerState Record)) → 1 ≤ z.first → z.first ≤ length z.vectors → IsSome (read_by x) → map plain lent ≡ ms → MayRead x.number z.first x lent z.vectors
-    may_read lent some enough reads same = record {
+    pub may_read : (lent : List (MaintainerState Record)) → IsSome (read_by x) → map plain lent ≡ ms → MayRead x.number z.first x lent z.vectors
+    may_read lent reads same = record {
       number = refl;
       reads = reads;
       few = few_commands;
       position = first_position reads;
-      some = some;
+      some = h.served.0;
       vector = served;
       kept = λ p first high. kept_plain_owner (length x.standing.past) (vector_at z.vectors (x.number % z.first)).epochs lent p
           (subst (λ ns. IsKeptByOwner (length x.standing.past) (vector_at z.vectors (x.number % z.first)).epochs ns p) (sym same)
@@ -195,4 +195,4 @@ module _ (w : World) (d : ℕ) (z : Datacentre) (lawful : IsLawful w) (h : Stand
     }
       where
         served : x.number % z.first < length z.vectors
-        served = omega (arith, mod-lt x.number some, enough)
+        served = omega (arith, mod-lt x.number h.served.0, h.served.1)
