@@ -9,8 +9,10 @@ pub mod Flushes
 pub mod FlushMay
 pub mod ReadLemmas
 pub mod ClientMay
+pub mod ClientIs
 pub mod PlacingLemmas
 pub mod LearningLemmas
 pub mod TellingLemmas
 pub mod StockLemmas
 pub mod NewsLemmas
+pub mod ToldLemmas
