@@ -1,2 +1,3 @@
 pub mod StockLemmas
 pub mod NewsLemmas
+pub mod ToldLemmas
