@@ -1,5 +1,5 @@
 -- What the stage world sees of the stages that a turn is lent.
-use Rattle.std.specs.Prelude.{List, [], ◌∷◌, map, Option, Some, None}
+use Rattle.std.specs.Prelude.{ℕ, List, [], ◌∷◌, map, Option, Some, None}
 use Rattle.causal_deps.specs.declared.record.Record.{Record}
 use Rattle.maintainer.specs.Maintainers.{MaintainerState, plain}
 use Rattle.token_queue.specs.Queues.{QueueState, TokenState, tokenless}
