@@ -1,3 +1,16 @@
+pub mod StampedItems
+pub mod AckLemmas
+pub mod RingLemmas
+pub mod StampLemmas
+pub mod LawfulAfter
+pub mod StampStands
+pub mod StampTurns
+pub mod Flushes
+pub mod FlushMay
+pub mod ReadLemmas
+pub mod ClientMay
 pub mod PlacingLemmas
 pub mod LearningLemmas
 pub mod TellingLemmas
+pub mod StockLemmas
+pub mod NewsLemmas

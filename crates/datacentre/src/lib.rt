@@ -5,11 +5,20 @@
 //! with its outcome and its events. So what the stages hold goes on standing for a log.
 #![tactic(auto)]
 
+mod client;
+mod commands;
 mod done;
+mod ring;
+mod flushing;
+mod session;
+mod stamping;
 mod learning;
 mod placing;
-mod session;
 mod telling;
+mod receiving;
+mod sender_stock;
+mod sending;
+mod stocking;
 pub mod turns;
 
 pub use done::TurnDone;

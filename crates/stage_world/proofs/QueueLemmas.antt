@@ -1,16 +1,15 @@
 -- Queues of a datacentre, when one of them changes.
-use Rattle.std.proofs.Common.{◌≡◌, ℕ, ◌+◌, ◌-◌, ◌/◌, ◌<◌, ◌≤◌, cond, leb, mod-lt, List, [], ◌∷◌, ◌++◌, length, get_or, set, ap, ◌∙◌, subst, sym, inl, inr, arith, None}
+use Rattle.std.proofs.Common.{◌≡◌, ℕ, ◌-◌, ◌/◌, ◌<◌, ◌≤◌, cond, leb, mod-lt, List, [], ◌∷◌, ◌++◌, length, get_or, set, ap, ◌∙◌, subst, sym, inl, inr, arith, None}
 use Rattle.std.specs.List.{All}
 use Rattle.std.proofs.lemmas.List.{get_or-set_other, set_past, length-set}
 use Rattle.std.proofs.lemmas.List.Elements.{All-push, All-head, All-tail}
 use Rattle.std.proofs.lemmas.Bool.{cases_eq, cases_lt, cond_both}
 use Rattle.std.proofs.lemmas.Grind.{get_or-set_at}
-use Rattle.causal_deps.specs.declared.record.Record.{Record}
 use Rattle.abstract_log.specs.declared.script.Sizes.{Sizes}
 use Rattle.flstore_rounds.specs.declared.epochs.Epoch.{Epoch}
 use Rattle.flstore_rounds.specs.Epochs.{EpochList, IsEpochList, first_epoch, epoch_from, owner, IsSettled}
 use Rattle.token_queue.specs.declared.entry.Entry.{Entry}
-use Rattle.token_queue.specs.Queues.{QueueState, TokenState, outbox_for, with_entry}
+use Rattle.token_queue.specs.Queues.{QueueState, with_entry}
 use Rattle.stage_world.specs.Stages.{Datacentre, no_queue, queue_at, sizes_of}
 use Rattle.stage_world.specs.StandsFor.{AreQueues, AreMembers, IsDealtBy}
 use Rattle.stage_world.proofs.ListLemmas.{All-set_at}

@@ -1,9 +1,8 @@
 -- The turn of a session: it begins its next command, or goes on with the one that is open.
-use Rattle.std.specs.Prelude.{ℕ, zero, suc, ◌+◌, ◌%◌, ◌==◌, ◌&&◌, ◌||◌, Bool, false, if◌then◌else◌, nat_lt, List, [], ◌∷◌, ◌++◌, length, Option, Some, None, find, slice_get, bytes_eq}
+use Rattle.std.specs.Prelude.{ℕ, zero, suc, ◌+◌, ◌%◌, ◌==◌, ◌&&◌, false, if◌then◌else◌, nat_lt, List, [], ◌∷◌, ◌++◌, length, Option, Some, None, find, slice_get, bytes_eq}
 use Rattle.std.specs.Option.{option_map_or, option_map, option_to_list}
 use Rattle.std.specs.List.{list_any}
 use Rattle.causal_deps.specs.declared.record.Place.{Place}
-use Rattle.causal_deps.specs.declared.record.Item.TheVariants.{Local}
 use Rattle.abstract_log.specs.declared.command.Command.{Command}
 use Rattle.abstract_log.specs.declared.command.Command.TheVariants.{Append as AppendCommand, Put, Get, Tx, Read as ReadCommand, Last as LastCommand}
 use Rattle.abstract_log.specs.declared.event.Event.TheVariants.{Submit, Reply}
@@ -13,7 +12,6 @@ use Rattle.abstract_log.specs.declared.answer.Found.{Found}
 use Rattle.abstract_log.specs.declared.answer.Found.TheVariants.{Absent as AbsentKey}
 use Rattle.abstract_log.specs.declared.answer.ReadAnswer.{ReadAnswer}
 use Rattle.abstract_log.specs.declared.answer.ReadAnswer.TheVariants.{Beyond, Gone}
-use Rattle.abstract_log.specs.declared.script.Outcome.{Outcome}
 use Rattle.abstract_log.specs.declared.script.Outcome.TheVariants.{Absent, Unacknowledged, Finished, Submitted, Replied, Waiting, Below, Behind, Key}
 use Rattle.abstract_log.specs.Commands.{draft_of}
 use Rattle.abstract_log.specs.Answers.{places_in, past_with, shown_record, found_record, last_of}
