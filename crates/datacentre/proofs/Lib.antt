@@ -14,3 +14,4 @@ pub mod LearningLemmas
 pub mod TellingLemmas
 pub mod StockLemmas
 pub mod NewsLemmas
+pub mod ToldLemmas
