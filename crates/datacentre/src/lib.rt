@@ -8,17 +8,17 @@
 mod client;
 mod commands;
 mod done;
-mod ring;
 mod flushing;
-mod session;
-mod stamping;
 mod learning;
 mod placing;
-mod telling;
 mod receiving;
+mod ring;
 mod sender_stock;
 mod sending;
+mod session;
+mod stamping;
 mod stocking;
+mod telling;
 pub mod turns;
 
 pub use done::TurnDone;
