@@ -5,9 +5,12 @@
 //! with its outcome and its events. So what the stages hold goes on standing for a log.
 #![tactic(auto)]
 
+mod datacentre;
 mod done;
+mod opening;
 mod session;
 pub mod turns;
 
+pub use datacentre::Datacentre;
 pub use done::TurnDone;
 pub use session::Session;
