@@ -8,7 +8,9 @@
 mod datacentre;
 mod done;
 mod opening;
+mod ring;
 mod session;
+mod stamping;
 pub mod turns;
 
 pub use datacentre::Datacentre;

@@ -1,4 +1,8 @@
+ghost use Rattle.std.specs.Prelude.{◌≡◌, ◌+◌, ◌^◌, ◌<◌, length};
+ghost use Rattle.datacentre.specs.Stamping.{acked};
+
 use abstract_log::{Command, Standing};
+use causal_deps::Place;
 use cz_base::Seq;
 use std::marker::Model;
 
@@ -18,4 +22,25 @@ impl Model for Session {
 
     // No look-up is open, since none is built: nothing is pinned, and nothing found.
     ghost view = { λ s. record { number = s.number; commands = s.commands; standing = s.standing; pin = None; found = [] } };
+}
+
+impl Session {
+    /// Its number.
+    pub fn number(&self) -> u32
+        ensures { result ≡ self.now.number }
+    {
+        self.number
+    }
+
+    /// The write that is open got its place: it is answered, and the session knows of its record.
+    pub fn ack(&mut self, place: &Place)
+        requires host { place.now.host < length self.old.standing.past }
+        requires few { self.old.standing.answered + 1 < 2 ^ 32 }
+        ensures { self.new ≡ acked place.now self.old }
+    {
+        self.standing.answered += 1;
+        self.standing.begun = false;
+        self.standing.past.raise(place.host, place.toid);
+        self.standing.floor = self.standing.floor.max(place.lid);
+    }
 }

@@ -1,1 +1,4 @@
 //! The turns of the stages of one datacentre, each lent just the stages that its line names.
+
+pub use crate::ring::token;
+pub use crate::stamping::stamp;
