@@ -1,24 +1,69 @@
 -- A datacentre at the beginning.
-use Rattle.std.proofs.Common.{◌≡◌, ◌≢◌, ℕ, zero, suc, ◌+◌, ◌<◌, ◌≤◌, List, [], ◌∷◌, ◌++◌, length, map, get_or, set, replicate, refl, ap, ap₂, sym, ◌∙◌, inl, inr, arith, Some, None}
-use Rattle.std.proofs.lemmas.List.{get_or-set_same, get_or-set_other, length-set, length_push}
+use Rattle.std.proofs.Common.{◌≡◌, ◌≢◌, ℕ, zero, suc, ◌+◌, ◌<◌, ◌≤◌, List, [], ◌∷◌, ◌++◌, length, map, set, replicate, refl, ap, ap₂, sym, ◌∙◌, subst, arith, Option, Some, None}
+use Rattle.std.specs.List.{All}
+use Rattle.std.proofs.Math.Seq.{map-set_same}
+use Rattle.std.proofs.lemmas.List.{get_or-set_same, get_or-set_other, length-set, map_push, length-replicate}
+use Rattle.std.proofs.lemmas.List.Elements.{All-nil, All-push}
 use Rattle.flstore_rounds.specs.Epochs.{EpochList}
 use Rattle.flstore_rounds.specs.Heads.{Pair, blank}
 use Rattle.maintainer.specs.Maintainers.{empty}
-use Rattle.token_queue.specs.Queues.{QueueState, TokenState}
+use Rattle.token_queue.specs.Queues.{QueueState, TokenState, tokenless}
 use Rattle.stage_world.specs.Stages.{Indexer, no_queue, queue_at}
 use Rattle.stage_world.specs.MoreTurns.{new_queue}
 use Rattle.stage_world.specs.Opening.{numbered}
 use Rattle.stage_world.proofs.OpeningLemmas.{length-numbered, get_or-numbered}
-use Rattle.datacentre.specs.Lent.{queues_seen, token_seen, maintainers_seen, HaveToken}
+use Rattle.datacentre.specs.Lent.{queues_seen, maintainers_seen, HaveToken}
 use Rattle.datacentre.specs.Seen.{indexers_from}
 
-module _ (e : EpochList) (n : ℕ) (t : TokenState) where
-  -- the queues, of which the first took the token
-  abbrev pub ring : List QueueState
-  ring = set (numbered (λ i. new_queue i e) n) 0 (record (queue_at (numbered (λ i. new_queue i e) n) 0) { token = Some (record t { at = (queue_at (numbered (λ i. new_queue i e) n) 0).number }) })
+-- what g leaves as it is
+pub map-numbered : {X : Type 0} (g : X → X) (f : ℕ → X) (n : ℕ) → ((i : ℕ) → g (f i) ≡ f i) → map g (numbered f n) ≡ numbered f n
+map-numbered g f zero same = refl
+map-numbered g f (suc n) same = map_push g (numbered f n) (f n) ∙ ap₂ (λ xs x. xs ++ x ∷ []) (map-numbered g f n same) (same n)
 
-  first_is : 1 ≤ n → queue_at (numbered (λ i. new_queue i e) n) 0 ≡ new_queue 0 e
-  first_is some = get_or-numbered (λ i. new_queue i e) n 0 no_queue some
+module _ (e : EpochList) (n : ℕ) (some : 1 ≤ n) (t : TokenState) (first : t.at ≡ 0) (qs : List QueueState) where
+  abbrev queues : List QueueState
+  queues = numbered (λ i. new_queue i e) n
 
-  pub first_free : 1 ≤ n → (queue_at (numbered (λ i. new_queue i e) n) 0).token ≡ None
-  first_free some = ap (λ (q : QueueState). q.token) (first_is some)
+  abbrev held : QueueState → QueueState
+  held q = record q { token = Some (record t { at = q.number }) }
+
+  first_is : queue_at queues 0 ≡ new_queue 0 e
+  first_is = get_or-numbered (λ i. new_queue i e) n 0 no_queue some
+
+  ring_is : qs ≡ set queues 0 (held (queue_at queues 0)) → qs ≡ set queues 0 (held (new_queue 0 e))
+  ring_is is = is ∙ ap (λ q. set queues 0 (held q)) first_is
+
+  pub ring_seen : qs ≡ set queues 0 (held (queue_at queues 0)) → queues_seen qs ≡ queues
+  ring_seen is =
+      ap queues_seen (ring_is is)
+      ∙ map-set_same tokenless queues 0 (held (new_queue 0 e)) no_queue (sym (ap tokenless first_is))
+      ∙ map-numbered tokenless (λ i. new_queue i e) n (λ i. refl)
+
+  pub ring_has : qs ≡ set queues 0 (held (queue_at queues 0)) → HaveToken qs t
+  ring_has is = subst (λ xs. HaveToken xs t) (sym (ring_is is)) (record {
+    there = omega (arith, first, length-set queues 0 (held (new_queue 0 e)), length-numbered (λ i. new_queue i e) n);
+    holder =
+        ap (λ i. (queue_at (set queues 0 (held (new_queue 0 e))) i).token) first
+        ∙ ap (λ (q : QueueState). q.token) (get_or-set_same queues 0 (held (new_queue 0 e)) no_queue (omega (arith, length-numbered (λ i. new_queue i e) n)))
+        ∙ ap (λ i. Some (record t { at = i })) (sym first);
+    others = λ i within other.
+        ap (λ (q : QueueState). q.token) (get_or-set_other queues 0 i (held (new_queue 0 e)) no_queue (λ is0. other (is0 ∙ sym first))
+        ∙ get_or-numbered (λ i. new_queue i e) n i no_queue (omega (arith, within, length-set queues 0 (held (new_queue 0 e)), length-numbered (λ i. new_queue i e) n)));
+  })
+
+-- indexers that know nothing yet, from number k on
+indexers_push : (k n : ℕ) (v : Pair) → indexers_from k (replicate (suc n) v) ≡ indexers_from k (replicate n v) ++ (record { number = k + n; pair = v; rows = [] }) ∷ []
+indexers_push k zero v = ap (λ i. (record { number = i; pair = v; rows = [] }) ∷ []) (plus-none k)
+  where
+    plus-none : (i : ℕ) → i ≡ i + 0
+    plus-none i = omega arith
+indexers_push k (suc n) v =
+    ap (λ is. (record { number = k; pair = v; rows = [] }) ∷ is)
+    (indexers_push (k + 1) n v ∙ ap (λ i. indexers_from (k + 1) (replicate n v) ++ (record { number = i; pair = v; rows = [] }) ∷ []) (next k n))
+  where
+    next : (i j : ℕ) → i + 1 + j ≡ i + suc j
+    next i j = omega arith
+
+pub indexers_new : (n : ℕ) (v : Pair) → indexers_from 0 (replicate n v) ≡ numbered (λ i. record { number = i; pair = v; rows = [] }) n
+indexers_new zero v = refl
+indexers_new (suc n) v = indexers_push 0 n v ∙ ap (λ is. is ++ (record { number = n; pair = v; rows = [] }) ∷ []) (indexers_new n v)

@@ -1,7 +1,9 @@
 -- What contracts see of a datacentre.
-use Rattle.std.specs.Prelude.{ℕ, ◌+◌, Bool, if◌then◌else◌, List, [], ◌∷◌, Option, Some, None}
+use Rattle.std.specs.Prelude.{ℕ, ◌+◌, Bool, if◌then◌else◌, List, [], ◌∷◌, replicate, Option, Some, None}
 use Rattle.abstract_log.specs.declared.world.World.{World}
+use Rattle.flstore_rounds.specs.Epochs.{EpochList}
 use Rattle.flstore_rounds.specs.Heads.{Pair}
+use Rattle.token_queue.specs.Queues.{TokenState}
 use Rattle.log_laws.specs.Lawful.{IsLawful}
 use Rattle.stage_world.specs.Stages.{Datacentre, Indexer}
 use Rattle.stage_world.specs.StandsFor.{StandsAt}
@@ -24,3 +26,7 @@ pub record StandsForALog (d : ℕ) (z : Datacentre) : Type 0 where
   pub world : World
   pub lawful : IsLawful world
   pub stands : StandsAt world d z
+
+-- the token of a datacentre that has stamped nothing, at its first queue
+abbrev pub first_token : ℕ → ℕ → EpochList → ℕ → TokenState
+first_token d dcs epochs queues = record { dc = d; counts = replicate dcs 0; last = 0; deferred = []; epochs = epochs; at = 0; queues = queues }

@@ -6,8 +6,7 @@ ghost use Rattle.stage_world.specs.Stages.{sizes_of};
 
 use crate::Session;
 use crate::opening::{
-    hold_first, new_batchers, new_filters, new_maintainers, new_queues, new_senders, new_sessions,
-    new_vectors,
+    new_batchers, new_filters, new_maintainers, new_ring, new_senders, new_sessions, new_vectors,
 };
 use abstract_log::{Sizes, Workload};
 use awareness_table::Aware;
@@ -20,7 +19,7 @@ use maintainer::Maintainer;
 use sender_receiver::Sender;
 use std::alloc::Global;
 use std::marker::Model;
-use token_queue::{Queue, Token};
+use token_queue::Queue;
 use toid_filter::{Champions, Filter};
 
 /// All stages of one datacentre with its sessions and its table. Once a call has answered `NoMemory` it has failed, and so
@@ -95,9 +94,6 @@ impl Datacentre {
         let dcs = workload.dcs;
         let epochs = Epochs::first(alloc, round, sizes.maintainers)?;
         let map = Champions::first(alloc, dcs, sizes.filters)?;
-        let mut queues = new_queues(alloc, sizes.queues, &epochs)?;
-        let token = Token::first(alloc, dc, dcs, sizes.queues, epochs.copy()?);
-        hold_first(&mut queues, token);
         Ok(Datacentre {
             dc,
             first_maintainers: sizes.maintainers,
@@ -105,7 +101,7 @@ impl Datacentre {
             batchers: new_batchers(alloc, sizes.batchers)?,
             filters: new_filters(alloc, sizes.filters, &map)?,
             map,
-            queues,
+            queues: new_ring(alloc, dc, dcs, sizes.queues, &epochs)?,
             maintainers: new_maintainers(alloc, sizes.maintainers, &epochs)?,
             vectors: new_vectors(alloc, sizes.maintainers, &epochs)?,
             indexers: new_vectors(alloc, sizes.indexers, &epochs)?,

@@ -6,6 +6,8 @@ ghost use Rattle.toid_filter.specs.Filters.{new_filter};
 ghost use Rattle.stage_world.specs.MoreTurns.{new_queue};
 ghost use Rattle.stage_world.specs.Stages.{queue_at};
 ghost use Rattle.stage_world.specs.Opening.{numbered, new_session, sessions_from};
+ghost use Rattle.datacentre.specs.Lent.{queues_seen, HaveToken};
+ghost use Rattle.datacentre.specs.Seen.{first_token};
 
 use crate::Session;
 use abstract_log::{Command, SessionPlan, Standing};
@@ -42,8 +44,27 @@ pub(crate) fn new_filters(alloc: Global, n: u32, map: &Champions) -> Result<Seq<
     Ok(filters)
 }
 
-/// So many queues, none of which has the token.
-pub(crate) fn new_queues(alloc: Global, n: u32, epochs: &Epochs) -> Result<Seq<Queue>, NoMemory>
+/// So many queues, the first of which has the token of a datacentre that has stamped nothing.
+pub(crate) fn new_ring(
+    alloc: Global,
+    dc: DcId,
+    dcs: u32,
+    n: u32,
+    epochs: &Epochs,
+) -> Result<Seq<Queue>, NoMemory>
+    requires dcs { (1 ≤ dcs) × (dcs ≤ 8) }
+    requires dc { dc < dcs }
+    requires queues { (1 ≤ n) × (n ≤ 16) }
+    ensures seen { IfOk result (λ queues. queues_seen queues ≡ numbered (λ i. new_queue i epochs.now) n) }
+    ensures token { IfOk result (λ queues. HaveToken queues (first_token dc dcs epochs.now n)) }
+{
+    let mut queues = new_queues(alloc, n, epochs)?;
+    hold_first(&mut queues, Token::first(alloc, dc, dcs, n, epochs.copy()?));
+    Ok(queues)
+}
+
+// So many queues, none of which has the token.
+fn new_queues(alloc: Global, n: u32, epochs: &Epochs) -> Result<Seq<Queue>, NoMemory>
     requires { n ≤ 16 }
     ensures { IfOk result (λ queues. queues ≡ numbered (λ i. new_queue i epochs.now) n) }
 {
@@ -139,8 +160,8 @@ fn copy_commands(commands: &Seq<Command>) -> Result<Seq<Command>, NoMemory>
     Ok(copy)
 }
 
-/// The first queue takes the token.
-pub(crate) fn hold_first(queues: &mut Seq<Queue>, token: Token)
+// The first queue takes the token.
+fn hold_first(queues: &mut Seq<Queue>, token: Token)
     requires some { 1 ≤ length queues.old }
     requires free { (queue_at queues.old 0).token ≡ None }
     ensures { queues.new ≡ slice_set queues.old 0 (record (queue_at queues.old 0) { token = Some (record token { at = (queue_at queues.old 0).number }) }) }
