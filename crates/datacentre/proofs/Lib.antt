@@ -6,3 +6,7 @@ pub mod StampLemmas
 pub mod LawfulAfter
 pub mod StampStands
 pub mod StampTurns
+pub mod Flushes
+pub mod FlushMay
+pub mod ReadLemmas
+pub mod ClientMay

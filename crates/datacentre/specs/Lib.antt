@@ -1,3 +1,5 @@
 pub mod Lent
 pub mod Seen
 pub mod Stamping
+pub mod Flushing
+pub mod Clients

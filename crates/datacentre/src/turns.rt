@@ -2,3 +2,5 @@
 
 pub use crate::ring::token;
 pub use crate::stamping::stamp;
+pub use crate::client::{client_read, client_write};
+pub use crate::flushing::{flush, pass};

@@ -27,6 +27,7 @@ use Rattle.single_loop.specs.Holding.{IsKeeper, IsTold, queue_at, slots_for, tok
 use Rattle.single_loop.specs.Stamping.{AreReady, stamped}
 use Rattle.single_loop.specs.Telling.{AreFormed, AreTold, AreTrueMarks, AreTrueVectors}
 use Rattle.single_loop.proofs.SlotsLemmas.{are_slots, filled_behind, filled_within, shown_by_owner, slots-append, slots_kept}
+use Rattle.token_queue.proofs.DrainLemmas.{drain_by_few}
 use Rattle.single_loop.proofs.StampingLemmas.{counts-stamped, drained_whole, length-stamped, ready_fits, whole}
 use Rattle.single_loop.proofs.PlacingLemmas.{outbox-without}
 use Rattle.single_loop.proofs.TellingLemmas.{same_prefix}
@@ -104,11 +105,11 @@ stamped_is e n items q new stamps is ready got =
     let P : QueueState → Type 0 = λ x. IsSomeAnd x.token (λ t. Stamps x t (drain_by t.dc t.counts (t.deferred ++ x.items)) stamps new) in
     stamped-of e n items stamps new ready (subst P is got)
 
-pub can_stamp : (e : EpochList) (n : ℕ) (items : List Item) (q : QueueState) → q ≡ queue_at e n items → n + length items < 2 ^ 48 → ForSome q.token (λ t. t.last + length t.deferred + length q.items < 2 ^ 48)
+pub can_stamp : (e : EpochList) (n : ℕ) (items : List Item) (q : QueueState) → q ≡ queue_at e n items → n + length items < 2 ^ 48 → ForSome q.token (λ t. t.last + length (drain_by t.dc t.counts (t.deferred ++ q.items)).records < 2 ^ 48)
 can_stamp e n items q is few =
-    let P : QueueState → Type 0 = λ x. ForSome x.token (λ t. t.last + length t.deferred + length x.items < 2 ^ 48) in
-    let Q : TokenState → Type 0 = λ t. t.last + length t.deferred + length items < 2 ^ 48 in
-    let low : n + 0 + length items < 2 ^ 48 = omega (arith, few) in
+    let P : QueueState → Type 0 = λ x. ForSome x.token (λ t. t.last + length (drain_by t.dc t.counts (t.deferred ++ x.items)).records < 2 ^ 48) in
+    let Q : TokenState → Type 0 = λ t. t.last + length (drain_by t.dc t.counts (t.deferred ++ items)).records < 2 ^ 48 in
+    let low : n + length (drain_by 0 (n ∷ []) items).records < 2 ^ 48 = omega (arith, few, drain_by_few (length items) 0 (n ∷ []) items) in
     let at : P (queue_at e n items) = λ t same. (let is_t : token_at e n ≡ t = cc in subst Q is_t low) in
     subst P (sym is) at
 

@@ -1,11 +1,11 @@
 -- Entries that are dealt to outboxes, and how often a position waits in them.
-use Rattle.std.proofs.Common.{◌≡◌, ℕ, zero, suc, ◌+◌, ◌<◌, ◌≤◌, ◌⊎◌, cond, eqb, List, [], ◌∷◌, ◌++◌, length, get_or, set, refl, ap, inl, inr, arith, Option}
+use Rattle.std.proofs.Common.{◌≡◌, ℕ, zero, suc, ◌+◌, ◌<◌, ◌≤◌, ◌⊎◌, cond, eqb, List, [], ◌∷◌, ◌++◌, length, get_or, set, refl, ap, sym, subst, inl, inr, arith, Option}
 use Rattle.std.proofs.Common.{eq-eqb, ne_eqb}
 use Rattle.std.specs.List.{All, sum_by}
 use Rattle.std.proofs.lemmas.Bool.{cases_lt, cases_eq}
-use Rattle.std.proofs.lemmas.List.{length-set, set_past, get_or_past}
+use Rattle.std.proofs.lemmas.List.{length-set, set_past, get_or_past, get_or-set_same, get_or-set_other}
 use Rattle.std.proofs.lemmas.List.Sums.{sum_by-cons, sum_by_push, sum_by-set}
-use Rattle.std.proofs.lemmas.List.Elements.{All-nil, All-cons, All-head, All-tail, All-weaker}
+use Rattle.std.proofs.lemmas.List.Elements.{All-nil, All-cons, All-head, All-tail, All-weaker, All-push}
 use Rattle.causal_deps.specs.declared.record.Record.{Record}
 use Rattle.flstore_rounds.specs.Epochs.{EpochList, owner}
 use Rattle.token_queue.specs.declared.entry.Entry.{Entry}
@@ -91,6 +91,44 @@ entries_once p last (r ∷ rs) above within =
 pub owners_below : (e : EpochList) (n last : ℕ) (rs : List Record) → ((p : ℕ) → 1 ≤ p → owner e p < n) → All (λ x. owner e x.lid < n) (entries_from last rs)
 owners_below e n last [] below = All-nil (λ (x : Entry). owner e x.lid < n)
 owners_below e n last (r ∷ rs) below = All-cons (λ (x : Entry). owner e x.lid < n) (record { lid = last + 1; rec = r }) (entries_from (last + 1) rs) (below (last + 1) (omega arith)) (owners_below e n (last + 1) rs below)
+
+-- What holds of the entries in each outbox, by the number of its member, goes on to hold.
+pub each_put : (P : ℕ → Entry → Type 0) (e : EpochList) (x : Entry) (os : List (List Entry)) → P (owner e x.lid) x → ((m : ℕ) → All (P m) (get_or os m []))
+    → (m : ℕ) → All (P m) (get_or (set os (owner e x.lid) (get_or os (owner e x.lid) [] ++ x ∷ [])) m [])
+each_put P e x os here each m =
+    let w : ℕ = owner e x.lid in
+    let o : List Entry = get_or os w [] ++ x ∷ [] in
+    elim (cases_eq m w) [
+      | inl same ↦ elim (cases_lt w (length os)) [
+        | inl within ↦ subst (λ k. All (P k) (get_or (set os w o) k [])) (sym same) (subst (λ (ys : List Entry). All (P w) ys) (sym (get_or-set_same os w o [] within)) (All-push (P w) (get_or os w []) x (each w) here))
+        | inr past ↦ subst (λ (ys : List (List Entry)). All (P m) (get_or ys m [])) (sym (set_past os w o past)) (each m)
+      ]
+      | inr other ↦ subst (λ (ys : List Entry). All (P m) ys) (sym (get_or-set_other os w m o [] other)) (each m)
+    ]
+
+pub each_dealt : (P : ℕ → Entry → Type 0) (e : EpochList) (es : List Entry) (os : List (List Entry)) → All (λ x. P (owner e x.lid) x) es → ((m : ℕ) → All (P m) (get_or os m []))
+    → (m : ℕ) → All (P m) (get_or (dealt e es 0 os) m [])
+each_dealt P e [] os all each m = subst (λ (ys : List (List Entry)). All (P m) (get_or ys m [])) (sym (dealt_none e 0 os)) (each m)
+each_dealt P e (x ∷ es) os all each m =
+    let put : List (List Entry) = set os (owner e x.lid) (get_or os (owner e x.lid) [] ++ x ∷ []) in
+    subst (λ (ys : List (List Entry)). All (P m) (get_or ys m [])) (sym (dealt_to e x es 0 (owner e x.lid) os (omega arith)))
+    (each_dealt P e es put (All-tail (λ (y : Entry). P (owner e y.lid) y) x es all) (each_put P e x os (All-head (λ (y : Entry). P (owner e y.lid) y) x es all) each) m)
+
+pub each_with_entry : (P : ℕ → Entry → Type 0) (e : EpochList) (x : Entry) (q : QueueState) → P (owner e x.lid) x → ((m : ℕ) → All (P m) (outbox_for q m)) → (m : ℕ) → All (P m) (outbox_for (with_entry e x q) m)
+each_with_entry P e x q here each m = each_put P e x q.outboxes here each m
+
+pub each_stamped : (P : ℕ → Entry → Type 0) (q : QueueState) (t : TokenState) (all : Drained) → All (λ x. P (owner t.epochs x.lid) x) (entries_from t.last all.records) → ((m : ℕ) → All (P m) (outbox_for q m))
+    → (m : ℕ) → All (P m) (outbox_for (stamped_queue q t all) m)
+each_stamped P q t all here each m = each_dealt P t.epochs (entries_from t.last all.records) q.outboxes here each m
+
+pub each_without : (P : ℕ → Entry → Type 0) (q : QueueState) (k : ℕ) → ((m : ℕ) → All (P m) (outbox_for q m)) → (m : ℕ) → All (P m) (outbox_for (without_outbox q k) m)
+each_without P q k each m = elim (cases_eq m k) [
+  | inl same ↦ elim (cases_lt k (length q.outboxes)) [
+    | inl within ↦ subst (λ i. All (P i) (get_or (set q.outboxes k []) i [])) (sym same) (subst (λ (ys : List Entry). All (P k) ys) (sym (get_or-set_same q.outboxes k [] [] within)) (All-nil (P k)))
+    | inr past ↦ subst (λ (ys : List (List Entry)). All (P m) (get_or ys m [])) (sym (set_past q.outboxes k [] past)) (each m)
+  ]
+  | inr other ↦ subst (λ (ys : List Entry). All (P m) ys) (sym (get_or-set_other q.outboxes k m [] [] other)) (each m)
+]
 
 -- The calls of a queue, where its token is left out of account.
 pub tokenless_stamped : (q : QueueState) (t : TokenState) (all : Drained) → stamped_queue (tokenless q) t all ≡ stamped_queue q t all

@@ -77,8 +77,8 @@ pub fn dealing_loses_nothing()
         → sum_by (λ outbox. sum_by f outbox) (dealt epochs entries 0 outboxes) ≡ sum_by (λ outbox. sum_by f outbox) outboxes + sum_by f entries }
 {}
 
-/// A position waits as often as entries at it were dealt and not taken; and a stamping deals each position from the last
-/// one on once, as far as it stamps, and no other.
+/// A position waits as often as entries at it were dealt and not taken. Of the positions a stamping deals those behind
+/// the last one, each once, as many as it stamps.
 pub fn positions_wait_once()
     ensures taken { (p m : ℕ) (q : QueueState) → waiting p (without_outbox q m) + times_among p (outbox_for q m) ≡ waiting p q }
     ensures stamped { (p : ℕ) (q : QueueState) (t : TokenState) (all : Drained) → All (λ e. owner t.epochs e.lid < length q.outboxes) (entries_from t.last all.records)

@@ -9,10 +9,11 @@
 //! Contracts see the token and the queue as records (`TokenState`, `QueueState`). The token keeps the
 //! counts of the log and not the log.
 //!
-//! For the layers above: whatever log has the token's counts and length, `Queue::stamp` is the drain of
-//! the list into that log, and the token it leaves stands for the longer log. What holds of every drain
-//! is in `laws`: its steps are ready one after another, nothing is lost or made, a log in causal order
-//! stays so, no item that is left is ready, and counts are enough.
+//! For the layers above: whatever log has the token's counts, `Queue::stamp` is the drain of the list into
+//! that log, and where the log is as long as the token says, the token it leaves stands for the longer log.
+//! What holds of every drain is in `laws`: its steps are ready one after another, nothing is lost or made, a
+//! log in causal order stays so, no item that is left is ready, and counts are enough. What holds of every
+//! stamping is there too: it goes by single steps, dealing loses nothing, and each position waits once.
 #![tactic(auto)]
 
 mod entry;

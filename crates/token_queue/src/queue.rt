@@ -99,7 +99,8 @@ impl Queue {
         requires lids { ForSome self.old.token (λ t. t.last + length (drain_by t.dc t.counts (t.deferred ++ self.old.items)).records < 2 ^ 48) }
         requires fit { ForSome self.old.token (λ t. All (FitsItem (length t.counts)) self.old.items) }
 
-        // Whatever the log is, of which the token has the counts; and where the token has its last position too.
+        // Whatever the log is, of which the token has the counts. Where its length is the token's last position, the
+        // token that is left stands for the longer log.
         ensures drains { (log : List Record) → IfOk result (λ stamps. IsSomeAnd self.old.token (λ t. AreCountsOf log t.counts → Stamps self.old t (drain t.dc log (t.deferred ++ self.old.items)) stamps self.new)) }
         ensures log { (log : List Record) → OnOk result (IsSomeAnd self.old.token (λ t. IsLogOf t log
             → IsSomeAnd self.new.token (λ u. IsLogOf u (log ++ (drain t.dc log (t.deferred ++ self.old.items)).records)))) }

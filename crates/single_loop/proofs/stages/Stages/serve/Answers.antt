@@ -1,8 +1,13 @@
-use Rattle.std.proofs.Common.{refl, ◌∙◌}
+use Rattle.std.proofs.Common.{length, refl, ◌∙◌}
 use Rattle.std.proofs.lemmas.List.{with_items_is}
-use Rattle.single_loop.proofs.HoldingLemmas.{stamped_is}
+use Rattle.single_loop.proofs.HoldingLemmas.{can_stamp, stamped_is}
 use Rattle.single_loop.proofs.ServeLemmas.{serve_all, serve_can, serve_formed}
 use Rattle.single_loop.proofs.stages.Stages.serve.Goals as goal
+
+pub stamp-requires-clause-lids : goal.stamp-requires-clause-lids
+stamp-requires-clause-lids c =
+    let held = c.requires.held in
+    can_stamp c.args.self.now.epochs (length held.0) c.args.self.now.queue.items c.args.self.now.queue held.1.queue held.3
 
 pub place_all-requires-clause-can : goal.place_all-requires-clause-can
 place_all-requires-clause-can c =
