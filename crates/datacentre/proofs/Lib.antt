@@ -10,3 +10,6 @@ pub mod Flushes
 pub mod FlushMay
 pub mod ReadLemmas
 pub mod ClientMay
+pub mod PlacingLemmas
+pub mod LearningLemmas
+pub mod TellingLemmas

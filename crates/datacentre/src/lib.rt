@@ -14,6 +14,9 @@ mod commands;
 mod flushing;
 mod session;
 mod stamping;
+mod learning;
+mod placing;
+mod telling;
 pub mod turns;
 
 pub use datacentre::Datacentre;

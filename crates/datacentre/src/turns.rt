@@ -4,3 +4,6 @@ pub use crate::ring::token;
 pub use crate::stamping::stamp;
 pub use crate::client::{client_read, client_write};
 pub use crate::flushing::{flush, pass};
+pub use crate::learning::learn;
+pub use crate::placing::place;
+pub use crate::telling::gossip;
