@@ -13,3 +13,4 @@ pub mod ClientMay
 pub mod PlacingLemmas
 pub mod LearningLemmas
 pub mod TellingLemmas
+pub mod StockLemmas

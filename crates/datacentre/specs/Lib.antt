@@ -6,3 +6,5 @@ pub mod Clients
 pub mod Placing
 pub mod Telling
 pub mod Learning
+pub mod Told
+pub mod Rising

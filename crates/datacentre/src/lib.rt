@@ -17,6 +17,9 @@ mod stamping;
 mod learning;
 mod placing;
 mod telling;
+mod receiving;
+mod sender_stock;
+mod stocking;
 pub mod turns;
 
 pub use datacentre::Datacentre;

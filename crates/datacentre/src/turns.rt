@@ -7,3 +7,4 @@ pub use crate::flushing::{flush, pass};
 pub use crate::learning::learn;
 pub use crate::placing::place;
 pub use crate::telling::gossip;
+pub use crate::receiving::deliver;

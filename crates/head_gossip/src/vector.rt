@@ -1,4 +1,4 @@
-ghost use Rattle.std.specs.Prelude.{◌≡◌, ℕ, ◌<◌, ◌≤◌, ◌⊎◌, Bool, IsTrue, All, length, IfOk, OnOk, OnErr};
+ghost use Rattle.std.specs.Prelude.{◌≡◌, ℕ, ◌<◌, ◌≤◌, ◌⊎◌, Bool, IsTrue, IfOk, OnOk, OnErr};
 ghost use Rattle.causal_deps.specs.Counts.{greater};
 ghost use Rattle.flstore_rounds.specs.Epochs.{EpochList, IsPrefix};
 ghost use Rattle.flstore_rounds.specs.Heads.{IsHead, IsTrueMark, IsTrueOf, blank, head, joined, with_own};

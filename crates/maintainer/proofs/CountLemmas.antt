@@ -1,7 +1,7 @@
 -- How often a position is counted among entries and positions, and what stands at one that is counted.
 use Rattle.std.proofs.Common.{◌≡◌, ◌≢◌, ℕ, zero, suc, ◌+◌, ◌-◌, ◌<◌, ◌≤◌, Bool, true, false, cond, ltb, leb, eqb, not, ◌&&◌, List, [], ◌∷◌, ◌++◌, length, get_or, slice_get, Some, None, refl, ap, sym, ◌∙◌, subst, inl, inr, arith}
 use Rattle.std.specs.List.{All, Contains, filter, list_any}
-use Rattle.std.proofs.lemmas.Bool.{cases_eq, cond-true, cond-false, cond_both, eq-eqb, ne_eqb, and_from, or_parts, le-leb, lt-ltb, true≢false, false≢true}
+use Rattle.std.proofs.lemmas.Bool.{cases_eq, cond-true, cond-false, cond_both, eq-eqb, ne_eqb, and_from, or_cases, or_parts, le-leb, lt-ltb, true≢false, false≢true}
 use Rattle.std.proofs.lemmas.List.Elements.{All-nil, All-cons, All-head, All-tail, All-weaker, Contains-get_or, filter_passes}
 use Rattle.std.proofs.lemmas.List.Sums.{sum_by-cons, sum_by-append, sum_by_push}
 use Rattle.causal_deps.proofs.Lists.{Contains-there, slice_get-append_left}
@@ -39,6 +39,19 @@ position_counted P p (q ∷ qs) some all = elim (cases_eq q p) [
   | inl same ↦ subst P same (All-head P q qs all)
   | inr other ↦ position_counted P p qs (omega (arith, sum_by-cons (λ (x : ℕ). cond (eqb x p) 1 0) q qs, cond-false {A = ℕ} (eqb q p) 1 0 (ne_eqb q p other))) (All-tail P q qs all)
 ]
+
+-- a test finds a position exactly where it is counted
+pub gone_test : (p : ℕ) (ps : List ℕ) → (list_any (λ q. eqb q p) ps ≡ true → 1 ≤ times p ps) × (list_any (λ q. eqb q p) ps ≡ false → times p ps ≡ 0)
+gone_test p [] = (λ is. absurd (false≢true is), λ is. refl)
+gone_test p (q ∷ qs) =
+    let rest = gone_test p qs in
+    let sum : times p (q ∷ qs) ≡ cond (eqb q p) 1 0 + times p qs = sum_by-cons (λ (x : ℕ). cond (eqb x p) 1 0) q qs in (
+      λ is. elim (or_cases (eqb q p) (list_any (λ x. eqb x p) qs) is) [
+        | inl here ↦ omega (arith, sum, cond-true {A = ℕ} (eqb q p) 1 0 here)
+        | inr later ↦ omega (arith, sum, rest.0 later)
+      ],
+      λ is. let both = or_parts (eqb q p) (list_any (λ x. eqb x p) qs) is in omega (arith, sum, cond-false {A = ℕ} (eqb q p) 1 0 both.0, rest.1 both.1),
+    )
 
 -- where no position is in a range, none of that range is counted
 pub none_counted : (low top p : ℕ) (ps : List ℕ) → list_any (λ q. leb low q && ltb q top) ps ≡ false → low ≤ p → p < top → times p ps ≡ 0

@@ -7,3 +7,4 @@ pub mod CountLemmas
 pub mod LawLemmas
 pub mod StateLemmas
 pub mod OwnLemmas
+pub mod AfterLemmas

@@ -1,5 +1,5 @@
 -- Maintainers: each keeps the values at the positions that it owns.
-use Rattle.std.specs.Prelude.{◌≡◌, ℕ, zero, suc, ◌+◌, ◌-◌, ◌^◌, ◌<◌, ◌≤◌, ◌==◌, max, not, if◌then◌else◌, nat_lt, List, [], ◌∷◌, length, filter, Option, Some, None, slice_get, slice_index_or, count_by, fold, All, refl}
+use Rattle.std.specs.Prelude.{◌≡◌, ℕ, zero, suc, ◌+◌, ◌-◌, ◌^◌, ◌<◌, ◌≤◌, ◌==◌, max, not, if◌then◌else◌, nat_lt, List, [], ◌∷◌, length, filter, find, Option, Some, None, slice_get, slice_index_or, count_by, fold, All, refl}
 use Rattle.std.specs.Coded.{Coded, code_by, coded×, coded_ℕ, coded_list}
 use Rattle.flstore_rounds.specs.declared.epochs.Epoch.{Epoch}
 use Rattle.flstore_rounds.specs.Epochs.{EpochList, owner, longer, IsPrefix, IsSettled}
@@ -73,6 +73,10 @@ module _ {T : Type 0} where
   abbrev pub value_at : ℕ → List (Slot T) → Option T
   value_at p [] = None
   value_at p (e ∷ es) = if e.lid == p then Some e.value else value_at p es
+
+  -- the first entry above p
+  abbrev pub entry_after : ℕ → List (Slot T) → Option (Slot T)
+  entry_after p es = find (λ e. nat_lt p e.lid) es
 
   -- the value that is shown
   abbrev pub shown_value : Shown T → Option T

@@ -1,10 +1,11 @@
 ghost use Rattle.std.specs.Prelude.{◌≡◌, ◌⊎◌, ℕ, ◌^◌, ◌<◌, ◌≤◌, ◌↔◌, Contains, IsSome, OnErr, OnOk};
+ghost use Rattle.std.specs.Option.{option_copied};
 ghost use Rattle.causal_deps.specs.declared.answers.Shown.{Shown};
 ghost use Rattle.flstore_rounds.specs.Epochs.{IsPrefix, IsSettled};
-ghost use Rattle.maintainer.specs.Maintainers.{AreKept, IsFilled, IsMark, IsOwn, empty, learned, mark_of, placed, shown_value, value_at};
+ghost use Rattle.maintainer.specs.Maintainers.{AreKept, AreRising, IsFilled, IsMark, IsOwn, empty, entry_after, learned, mark_of, placed, shown_value, value_at};
 
 use crate::Slot;
-use crate::slot::{mark_past, slots_below, value_of};
+use crate::slot::{mark_past, slot_after, slots_below, value_of};
 use causal_deps::Shown;
 use cz_base::{Lid, NoMemory};
 use flstore_rounds::Epochs;
@@ -116,6 +117,15 @@ impl<T> Maintainer<T> {
             Some(value) => Shown::Filled(value),
             None => Shown::Empty,
         }
+    }
+
+    /// The first entry above a position, if there is one. Positions rise along the entries, so no other entry above it
+    /// is nearer.
+    pub fn next_after(&self, lid: Lid) -> Option<&Slot<T>>
+        ensures value { option_copied result ≡ entry_after lid self.now.entries }
+        ensures rising { AreRising self.now.entries }
+    {
+        slot_after(&self.slots, lid)
     }
 
     /// The mark: one more than the greatest own position up to which every own one is filled, and

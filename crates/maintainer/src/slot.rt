@@ -2,7 +2,7 @@ ghost use Rattle.std.specs.Prelude.{◌≡◌, ◌<◌, ◌≤◌, length, []};
 ghost use Rattle.std.specs.List.{AllWithin, HoldsAt};
 ghost use Rattle.std.specs.Option.{option_copied};
 ghost use Rattle.flstore_rounds.specs.Epochs.{last_epoch};
-ghost use Rattle.maintainer.specs.Maintainers.{AreKept, AreRising, IsOwnedBy, IsFilledBy, value_at};
+ghost use Rattle.maintainer.specs.Maintainers.{AreKept, AreRising, IsOwnedBy, IsFilledBy, entry_after, value_at};
 ghost use Rattle.maintainer.specs.Marks.{IsGapless, IsMarkOf};
 
 use cz_base::Lid;
@@ -25,6 +25,19 @@ pub(crate) fn slots_below<T>(slots: &[Slot<T>], lid: Lid) -> usize
     match slots.last() {
         Some(last) if last.lid < lid => slots.len(),
         _ => slots.partition_point(|slot| slot.lid < lid),
+    }
+}
+
+/// The first slot above the position.
+pub(crate) fn slot_after<T>(slots: &[Slot<T>], lid: Lid) -> Option<&Slot<T>>
+    requires { AreRising slots.now }
+    ensures { option_copied result ≡ entry_after lid slots.now }
+{
+    let at = slots.partition_point(|slot| slot.lid <= lid);
+    if at < slots.len() {
+        Some(&slots[at])
+    } else {
+        None
     }
 }
 

@@ -6,8 +6,10 @@ use Rattle.std.proofs.lemmas.Bool.{cases_lt, cases_eq, cond_both}
 use Rattle.std.proofs.lemmas.List.{get_or-set_same, get_or-set_other, length-set}
 use Rattle.causal_deps.specs.declared.record.Record.{Record}
 use Rattle.flstore_rounds.specs.Epochs.{EpochList, IsPrefix, longer}
-use Rattle.flstore_rounds.specs.Heads.{IsTrueMark, IsTrueOf, Pair, joined, mark_at, raised, with_own}
-use Rattle.flstore_rounds.proofs.HeadLemmas.{length-greater, mark_at-joined}
+use Rattle.causal_deps.specs.Counts.{raised}
+use Rattle.causal_deps.proofs.CountsLemmas.{length-greater}
+use Rattle.flstore_rounds.specs.Heads.{IsTrueMark, IsTrueOf, Pair, joined, mark_at, with_own}
+use Rattle.flstore_rounds.proofs.HeadLemmas.{mark_at-joined}
 use Rattle.head_gossip.proofs.MarkLemmas.{heard_is_true, owned_is_true}
 use Rattle.maintainer.specs.Maintainers.{MaintainerState, mark_of}
 use Rattle.single_loop.specs.Telling.{AreFormed, AreHeard, AreTold, AreTrueMarks, AreTrueVectors, HaveHeard, Knows}
