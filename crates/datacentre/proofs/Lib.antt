@@ -14,3 +14,4 @@ pub mod PlacingLemmas
 pub mod LearningLemmas
 pub mod TellingLemmas
 pub mod StockLemmas
+pub mod WholeTurns

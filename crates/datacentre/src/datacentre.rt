@@ -1,79 +1,45 @@
-ghost use Rattle.std.specs.Prelude.{◌≡◌, ◌<◌, ◌≤◌, Some, IsSome, IfOk};
+ghost use Rattle.std.specs.Prelude.{◌≡◌, ◌×◌, ◌<◌, ◌≤◌, Some, None, IfOk, IsErr};
+ghost use Rattle.std.specs.List.{list_any};
 ghost use Rattle.std.specs.Option.{ForSome};
 ghost use Rattle.abstract_log.specs.Fits.{FitsLimits, FitsSizes};
 ghost use Rattle.stage_world.specs.Opening.{opening_at};
 ghost use Rattle.stage_world.specs.Stages.{sizes_of};
+ghost use Rattle.stage_world.specs.Schedules.{turn_of};
+ghost use Rattle.datacentre.specs.Seen.{IsWhole, StandsForALog, is_unanswered, seen};
+ghost use Rattle.datacentre.specs.Turning.{IsBuilt, TakesTurn};
 
-use crate::Session;
 use crate::opening::{
     new_batchers, new_filters, new_maintainers, new_ring, new_senders, new_sessions, new_vectors,
 };
-use abstract_log::{Sizes, Workload};
+use crate::TurnDone;
+use crate::parts::Parts;
+use crate::ring::holder;
+use abstract_log::{Sizes, Step, Workload};
 use awareness_table::Aware;
-use batcher::Batcher;
-use causal_deps::Record;
-use cz_base::{DcId, Lid, NoMemory, Seq};
+use causal_deps::Counts;
+use cz_base::{DcId, NoMemory};
 use flstore_rounds::Epochs;
-use head_gossip::Vector;
-use maintainer::Maintainer;
-use sender_receiver::Sender;
 use std::alloc::Global;
 use std::marker::Model;
-use token_queue::Queue;
-use toid_filter::{Champions, Filter};
+use toid_filter::Champions;
 
 /// All stages of one datacentre with its sessions and its table. Once a call has answered `NoMemory` it has failed, and so
 /// does each later call that takes memory.
 #[derive(Drop)]
 pub struct Datacentre {
-    dc: DcId,
-    first_maintainers: u32,
-    sessions: Seq<Session>,
-    batchers: Seq<Batcher>,
-    filters: Seq<Filter>,
-    map: Champions,
-    queues: Seq<Queue>,
-    maintainers: Seq<Maintainer<Record>>,
-    vectors: Seq<Vector>,
-    // What the indexers know. None is posted to yet.
-    indexers: Seq<Vector>,
-    senders: Seq<Sender>,
-    receivers: u32,
-    table: Aware,
-    learnt: Lid,
+    parts: Parts,
     failed: bool,
 }
 
 impl Model for Datacentre {
-    ghost use Rattle.std.specs.Prelude.{◌≡◌, length, None, All};
-    ghost use Rattle.datacentre.specs.Lent.{queues_seen, token_seen, maintainers_seen, HaveToken};
-    ghost use Rattle.datacentre.specs.Seen.{DatacentreState, indexers_from, stages_seen};
+    ghost use Rattle.std.specs.Prelude.{◌≡◌, false};
+    ghost use Rattle.datacentre.specs.Seen.{DatacentreState, IsWhole, state_of};
 
     ghost Value = { DatacentreState };
 
-    ghost view = { λ d. record {
-        dc = d.dc;
-        stages = stages_seen d.failed (record {
-            first = d.first_maintainers;
-            sessions = d.sessions;
-            batchers = d.batchers;
-            filters = d.filters;
-            map = d.map;
-            announcement = None;
-            queues = queues_seen d.queues;
-            token = token_seen d.queues;
-            maintainers = maintainers_seen d.maintainers;
-            vectors = d.vectors;
-            indexers = indexers_from 0 d.indexers;
-            table = d.table.table;
-            learnt = d.learnt;
-            floor = 0;
-            senders = length d.senders;
-            receivers = d.receivers;
-        });
-    } };
+    ghost view = { λ d. state_of d.failed d.parts };
 
-    ghost invariant = { λ d. HaveToken d.queues (token_seen d.queues) × (d.table.dc ≡ d.dc) × All (λ s. s.dc ≡ d.dc) d.senders };
+    ghost invariant = { λ d. d.failed ≡ false → IsWhole d.parts };
 }
 
 impl Datacentre {
@@ -91,41 +57,126 @@ impl Datacentre {
         requires limits { FitsLimits workload.now }
         ensures { IfOk result (λ datacentre. datacentre ≡ record { dc = dc; stages = Some (opening_at round sizes.now workload.now dc) }) }
     {
-        let dcs = workload.dcs;
-        let epochs = Epochs::first(alloc, round, sizes.maintainers)?;
-        let map = Champions::first(alloc, dcs, sizes.filters)?;
         Ok(Datacentre {
-            dc,
-            first_maintainers: sizes.maintainers,
-            sessions: new_sessions(alloc, dcs, dc, &workload.sessions)?,
-            batchers: new_batchers(alloc, sizes.batchers)?,
-            filters: new_filters(alloc, sizes.filters, &map)?,
-            map,
-            queues: new_ring(alloc, dc, dcs, sizes.queues, &epochs)?,
-            maintainers: new_maintainers(alloc, sizes.maintainers, &epochs)?,
-            vectors: new_vectors(alloc, sizes.maintainers, &epochs)?,
-            indexers: new_vectors(alloc, sizes.indexers, &epochs)?,
-            senders: new_senders(alloc, dc, sizes.senders)?,
-            receivers: sizes.receivers,
-            table: Aware::new(dc, dcs),
-            learnt: 0,
+            parts: new_parts(alloc, dc, round, sizes, workload)?,
             failed: false,
         })
     }
 
+    /// The turn of one of the stages, as far as these are built: its events and what it answers. A send is a call of its
+    /// own, and so is what a link brings.
+    pub fn turn(&mut self, step: &Step) -> Result<TurnDone, NoMemory>
+        requires log { ForSome self.old.stages (StandsForALog self.old.dc) }
+        requires built { ForSome self.old.stages (λ z. IsBuilt z step.now) }
+        ensures turn { ForSome self.old.stages (λ z. TakesTurn self.old.dc (turn_of self.old.dc z step.now) result self.new) }
+        ensures failed { self.old.stages ≡ None → IsErr result × (self.new ≡ self.old) }
+    {
+        if self.failed {
+            return Err(NoMemory);
+        }
+        let turned = self.parts.take_turn(step);
+        self.failed = turned.is_err();
+        turned
+    }
+
     /// How many members each stage has now.
     pub fn members(&self) -> Sizes
-        requires { ForSome self.now.stages (λ z. FitsSizes (sizes_of z)) × IsSome self.now.stages }
+        requires { ForSome self.now.stages (StandsForALog self.now.dc) }
         ensures { ForSome self.now.stages (λ z. result ≡ sizes_of z) }
     {
+        if self.failed {
+            return NO_SIZES;
+        }
+        let parts = &self.parts;
         Sizes {
-            batchers: self.batchers.len() as u32,
-            filters: self.filters.len() as u32,
-            queues: self.queues.len() as u32,
-            maintainers: self.maintainers.len() as u32,
-            indexers: self.indexers.len() as u32,
-            senders: self.senders.len() as u32,
-            receivers: self.receivers,
+            batchers: parts.batchers.len() as u32,
+            filters: parts.filters.len() as u32,
+            queues: parts.queues.len() as u32,
+            maintainers: parts.maintainers.len() as u32,
+            indexers: parts.indexers.len() as u32,
+            senders: parts.senders.len() as u32,
+            receivers: parts.receivers,
         }
     }
+
+    /// The queue that has the token.
+    pub fn holder(&self) -> u32
+        requires { ForSome self.now.stages (StandsForALog self.now.dc) }
+        ensures { ForSome self.now.stages (λ z. result ≡ z.token.at) }
+    {
+        if self.failed {
+            return 0;
+        }
+        holder(&self.parts.queues) as u32
+    }
+
+    /// The counts of its log, which are the token's.
+    pub fn log_counts(&self) -> Counts
+        ensures { ForSome self.now.stages (λ z. result ≡ z.token.counts) }
+    {
+        if self.failed {
+            return Counts::zero(1);
+        }
+        match self.parts.queues.as_slice()[holder(&self.parts.queues)].token() {
+            Some(token) => token.counts(),
+            None => unreachable!(),
+        }
+    }
+
+    /// Whether one of its sessions has a command that is not answered.
+    pub fn unanswered(&self) -> bool
+        ensures { ForSome self.now.stages (λ z. result ≡ list_any is_unanswered z.sessions) }
+    {
+        self.parts
+            .sessions
+            .iter()
+            .any(|session| session.unanswered())
+    }
+}
+
+// What stands for the sizes of a datacentre that has failed.
+const NO_SIZES: Sizes = Sizes {
+    batchers: 0,
+    filters: 0,
+    queues: 0,
+    maintainers: 0,
+    indexers: 0,
+    senders: 0,
+    receivers: 0,
+};
+
+fn new_parts(
+    alloc: Global,
+    dc: DcId,
+    round: u32,
+    sizes: &Sizes,
+    workload: &Workload,
+) -> Result<Parts, NoMemory>
+    requires dc { dc < workload.now.dcs }
+    requires round { (1 ≤ round) × (round ≤ 1024) }
+    requires sizes { FitsSizes sizes.now }
+    requires limits { FitsLimits workload.now }
+    ensures stages { IfOk result (λ parts. seen parts ≡ opening_at round sizes.now workload.now dc) }
+    ensures dc { IfOk result (λ parts. parts.dc ≡ dc) }
+    ensures whole { IfOk result IsWhole }
+{
+    let dcs = workload.dcs;
+    let epochs = Epochs::first(alloc, round, sizes.maintainers)?;
+    let map = Champions::first(alloc, dcs, sizes.filters)?;
+    Ok(Parts {
+        dc,
+        first_maintainers: sizes.maintainers,
+        sessions: new_sessions(alloc, dcs, dc, &workload.sessions)?,
+        batchers: new_batchers(alloc, sizes.batchers)?,
+        filters: new_filters(alloc, sizes.filters, &map)?,
+        map,
+        queues: new_ring(alloc, dc, dcs, sizes.queues, &epochs)?,
+        maintainers: new_maintainers(alloc, sizes.maintainers, &epochs)?,
+        vectors: new_vectors(alloc, sizes.maintainers, &epochs)?,
+        indexers: new_vectors(alloc, sizes.indexers, &epochs)?,
+        senders: new_senders(alloc, dc, sizes.senders)?,
+        receivers: sizes.receivers,
+        table: Aware::new(dc, dcs),
+        learnt: 0,
+    })
 }

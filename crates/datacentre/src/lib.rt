@@ -5,21 +5,23 @@
 //! with its outcome and its events. So what the stages hold goes on standing for a log.
 #![tactic(auto)]
 
-mod datacentre;
-mod done;
-mod opening;
-mod ring;
 mod client;
 mod commands;
+mod datacentre;
+mod done;
 mod flushing;
+mod learning;
+mod opening;
+mod parts;
+mod placing;
+mod receiving;
+mod ring;
+mod sender_stock;
 mod session;
 mod stamping;
-mod learning;
-mod placing;
-mod telling;
-mod receiving;
-mod sender_stock;
 mod stocking;
+mod taking;
+mod telling;
 pub mod turns;
 
 pub use datacentre::Datacentre;
