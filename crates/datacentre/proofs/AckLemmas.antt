@@ -1,11 +1,10 @@
 -- Sessions by number, and one that gets its place.
-use Rattle.std.proofs.Common.{◌≡◌, ◌≢◌, ℕ, zero, suc, ◌+◌, ◌<◌, ◌≤◌, ◌^◌, max, Bool, cond, eqb, ltb, not, ◌&&◌, true, false, List, [], ◌∷◌, length, map, set, get_or, drop, refl, ap, ap₂, sym, subst, ◌∙◌, inl, inr, arith, Option, Some, None}
+use Rattle.std.proofs.Common.{◌≡◌, ℕ, suc, ◌+◌, ◌<◌, ◌≤◌, ◌^◌, max, Bool, cond, eqb, ltb, not, ◌&&◌, true, false, List, [], ◌∷◌, length, set, get_or, drop, refl, ap, ap₂, sym, subst, ◌∙◌, arith, Some, None}
 use Rattle.std.specs.List.{All, AllPairs, fold, sum_by, position, position_or_len}
-use Rattle.std.proofs.lemmas.Bool.{eqb-true, eqb-false, eq-eqb, ne_eqb, ltb-true, ltb-false, false≢true}
+use Rattle.std.proofs.lemmas.Bool.{eqb-true, eq-eqb, ne_eqb, ltb-true, ltb-false, false≢true}
 use Rattle.std.proofs.lemmas.List.{drop_more, length-set, set_past}
 use Rattle.std.proofs.lemmas.List.Sums.{sum_by-cons, passes_at_first}
 use Rattle.std.proofs.lemmas.List.Elements.{All-head, All-tail, All-weaker}
-use Rattle.causal_deps.specs.Counts.{raised}
 use Rattle.causal_deps.specs.declared.record.Place.{Place}
 use Rattle.abstract_log.specs.Worlds.{nowhere}
 use Rattle.token_queue.specs.declared.entry.Stamp.{Stamp}

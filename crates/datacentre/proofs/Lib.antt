@@ -15,3 +15,5 @@ pub mod LearningLemmas
 pub mod TellingLemmas
 pub mod StockLemmas
 pub mod WholeTurns
+pub mod NewsLemmas
+pub mod ToldLemmas

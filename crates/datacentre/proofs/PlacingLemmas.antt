@@ -189,6 +189,10 @@ module _ (w : World) (d : ℕ) (z : Datacentre) (q m : ℕ) (in_q : q < length z
       let may : MayPlaceFrom (tokenless queue) m (plain x) = subst (λ y. MayPlaceFrom (tokenless queue) m y) (sym is_m) (subst (λ y. MayPlaceFrom y m old_m) (sym is_q) may_old) in
       record { known = may.known; settled = may.settled; entries = may_plain (learned x queue.epochs) (outbox_for queue m) may.entries }
 
+-- a maintainer that is there has a number below 16
+pub member_below : (w : World) (d : ℕ) (z : Datacentre) (m : ℕ) → StandsAt w d z → m < length z.maintainers → m < 16
+member_below w d z m h there = omega (arith, h.members.ranges.maintainers.1)
+
 -- what `place` leaves and answers is the turn of all stages
 pub record IsPlaceTurn (z : Datacentre) (q m : ℕ) (queue : QueueState) (x : MaintainerState Record) (o : Outcome) : Type 0 where
   pub queues : set z.queues q (tokenless queue) ≡ (placed_from z q m).queues

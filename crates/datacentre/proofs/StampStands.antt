@@ -1,5 +1,5 @@
 -- What the turns of stamping and of the token ask holds where the stages stand for a log.
-use Rattle.std.proofs.Common.{◌≡◌, ◌≢◌, ℕ, ◌+◌, ◌<◌, ◌≤◌, ◌^◌, cond, eqb, List, [], ◌∷◌, ◌++◌, length, map, get_or, refl, ap, sym, subst, ◌∙◌, inl, inr, arith, Option, Some, None}
+use Rattle.std.proofs.Common.{◌≡◌, ℕ, ◌+◌, ◌<◌, ◌≤◌, ◌^◌, cond, List, ◌++◌, length, refl, ap, sym, subst, ◌∙◌, inl, inr, arith, Option, Some, None}
 use Rattle.std.specs.List.{All, sum_by}
 use Rattle.std.specs.Option.{ForSome}
 use Rattle.std.proofs.Math.ListN.{get_or-map}
@@ -14,16 +14,16 @@ use Rattle.causal_deps.specs.declared.record.Item.TheVariants.{Local, External}
 use Rattle.abstract_log.specs.declared.event.Event.{Event}
 use Rattle.abstract_log.specs.declared.world.World.{World}
 use Rattle.abstract_log.specs.declared.world.Standing.{Standing}
-use Rattle.abstract_log.specs.Worlds.{log_of, pending_of, standing_of}
+use Rattle.abstract_log.specs.Worlds.{log_of, pending_of}
 use Rattle.abstract_log.specs.Commands.{no_plan}
 use Rattle.abstract_log.specs.Runs.{after_all}
 use Rattle.log_laws.specs.Lawful.{IsLawful}
 use Rattle.log_laws.proofs.WriteCounts.{commands_are_counted}
 use Rattle.token_queue.specs.Items.{FitsItem}
 use Rattle.token_queue.specs.Drain.{drain_by}
-use Rattle.token_queue.specs.Queues.{QueueState, TokenState, tokenless}
+use Rattle.token_queue.specs.Queues.{QueueState, tokenless}
 use Rattle.stage_world.specs.Stages.{Datacentre, Session, no_queue, queue_at, under_way, is_draft_of}
-use Rattle.stage_world.specs.Turns.{Turned, quiet, drained, stamped, stamp_outcome, stamp_turn, stamp_events}
+use Rattle.stage_world.specs.Turns.{quiet, drained, stamped, stamp_outcome, stamp_events}
 use Rattle.abstract_log.specs.declared.script.Outcome.TheVariants.{NoToken}
 use Rattle.stage_world.specs.StandsFor.{StandsAt, IsAsFar, IsDue, one_of, open_draft}
 use Rattle.stage_world.specs.Whole.{Keeps}

@@ -1,19 +1,17 @@
 -- What a turn leaves of the stages that it is lent is what the stage world's turn leaves.
-use Rattle.std.proofs.Common.{◌≡◌, ◌≢◌, ℕ, ◌+◌, ◌<◌, ◌≤◌, Bool, cond, eqb, List, [], ◌∷◌, ◌++◌, length, map, set, get_or, refl, ap, sym, subst, ◌∙◌, inl, inr, arith, Option, Some, None}
+use Rattle.std.proofs.Common.{◌≡◌, ◌≢◌, ℕ, ◌<◌, cond, List, [], ◌++◌, length, set, refl, ap, sym, subst, ◌∙◌, inl, inr, arith, Some, None}
 use Rattle.std.specs.Option.{option_map_or}
 use Rattle.std.proofs.lemmas.Bool.{cases_eq, eq-eqb, ne_eqb}
 use Rattle.std.proofs.lemmas.List.{get_or-set_other, length-set, map-set, set-get_or}
 use Rattle.std.proofs.lemmas.Grind.{get_or-set_at}
 use Rattle.causal_deps.specs.declared.record.Item.{Item}
-use Rattle.abstract_log.specs.declared.event.Event.{Event}
-use Rattle.abstract_log.specs.declared.script.Outcome.{Outcome}
 use Rattle.abstract_log.specs.declared.script.Outcome.TheVariants.{NoToken}
 use Rattle.token_queue.specs.Drain.{Drained, drain_by}
-use Rattle.token_queue.specs.Queues.{QueueState, TokenState, tokenless, stamped_queue, stamped_token}
-use Rattle.stage_world.specs.Stages.{Datacentre, Session, no_queue, queue_at}
+use Rattle.token_queue.specs.Queues.{QueueState, tokenless, stamped_queue, stamped_token}
+use Rattle.stage_world.specs.Stages.{Datacentre, no_queue, queue_at}
 use Rattle.stage_world.specs.Turns.{Turned, quiet, drained, all_acknowledged, stamped, stamp_outcome, stamp_turn, stamp_events, token_turn}
 use Rattle.datacentre.specs.Lent.{HaveToken, queues_seen, token_at_next, token_seen}
-use Rattle.datacentre.specs.Stamping.{drained_of, events_stamped, items_of, outcome_stamped, queue_stamped, sessions_stamped, stamped_outcome}
+use Rattle.datacentre.specs.Stamping.{drained_of, events_stamped, outcome_stamped, queue_stamped, sessions_stamped, stamped_outcome}
 use Rattle.datacentre.proofs.RingLemmas.{token_is}
 use Rattle.datacentre.proofs.StampStands.{queue_seen}
 

@@ -1,5 +1,5 @@
 -- What became of the items that were drained, as the stamps tell it.
-use Rattle.std.proofs.Common.{◌≡◌, ◌≢◌, ℕ, zero, suc, ◌+◌, ◌≤◌, cond, eqb, ◌&&◌, true, false, List, [], ◌∷◌, map, set, refl, ap, ap₂, sym, ◌∙◌, arith, Option, Some, None}
+use Rattle.std.proofs.Common.{◌≡◌, ◌≢◌, ℕ, zero, suc, ◌+◌, ◌≤◌, cond, eqb, ◌&&◌, List, [], ◌∷◌, map, set, refl, ap, ap₂, ◌∙◌, arith, Option, Some, None}
 use Rattle.std.specs.List.{All, fold, sum_by}
 use Rattle.std.specs.Option.{option_map_or}
 use Rattle.std.proofs.lemmas.Bool.{eq-eqb, ne_eqb}
@@ -18,7 +18,7 @@ use Rattle.token_queue.specs.Queues.{entries_from, stamp_of}
 use Rattle.token_queue.proofs.ListLemmas.{is_out}
 use Rattle.stage_world.specs.Stages.{Session, is_draft_of}
 use Rattle.stage_world.specs.Turns.{at_session, acknowledged, all_acknowledged, sessions_after, stamp_event, stamp_events, place_of_entry}
-use Rattle.datacentre.specs.Stamping.{IsNewAt, acked, acked_by, event_of, is_ack_of}
+use Rattle.datacentre.specs.Stamping.{IsNewAt, acked_by, event_of, is_ack_of}
 
 -- the record that an item became at datacentre d
 abbrev pub IsStampedAs : ℕ → Item → Record → Type 0

@@ -2,7 +2,7 @@
 use Rattle.std.proofs.Common.{◌≡◌, ℕ, zero, suc, ◌+◌, ◌-◌, ◌%◌, ◌<◌, ◌≤◌, Bool, true, false, cond, ltb, eqb, List, [], ◌∷◌, ◌++◌, length, get_or, take, find, Option, Some, None, IsSome, refl, ap, sym, ◌∙◌, subst, inl, inr, arith}
 use Rattle.std.specs.List.{All, Contains, flat_map, fold, sum_by}
 use Rattle.std.specs.Option.{option_map}
-use Rattle.std.proofs.Math.Seq.{take-suc}
+use Rattle.std.proofs.Math.Seq.{take-suc, take-length}
 use Rattle.std.proofs.lemmas.Bool.{cases_lt, cases_eq, cond-true, cond-false, cond_both, eq-eqb, ne_eqb, lt-ltb, le-ltb}
 use Rattle.std.proofs.lemmas.Grind.{flat_map-append}
 use Rattle.std.proofs.lemmas.List.{append-nil}
@@ -202,11 +202,11 @@ nearest_with k n i p ms m a new b within is chosen rising after nearer h =
     let P : List (Slot Record) → Type 0 = λ es. IsNearest es p new in
     subst P (sym whole) (subst (IsNearest (read_by k n (take i ms) ++ m.entries) p) (ap (nearer_of a) (sym after) ∙ sym nearer) both)
 
-pub nearest_without : (k n i p : ℕ) (ms : List (MaintainerState Record)) (m : MaintainerState Record) (a : Option (Slot Record)) → i < length ms → m ≡ get_or ms i m → (m.number % n ≡ k → ⊥)
-    → IsNearest (read_by k n (take i ms)) p a → IsNearest (read_by k n (take (i + 1) ms)) p a
-nearest_without k n i p ms m a within is other h =
+pub nearest_without : (k n i p : ℕ) (ms : List (MaintainerState Record)) (m : MaintainerState Record) (a new : Option (Slot Record)) → i < length ms → m ≡ get_or ms i m → (m.number % n ≡ k → ⊥)
+    → new ≡ a → IsNearest (read_by k n (take i ms)) p a → IsNearest (read_by k n (take (i + 1) ms)) p new
+nearest_without k n i p ms m a new within is other same h =
     let whole = read_by_more k n i ms m within is ∙ ap (λ es. read_by k n (take i ms) ++ es) (cond-false (eqb (m.number % n) k) m.entries [] (ne_eqb (m.number % n) k other)) ∙ append-nil (read_by k n (take i ms)) in
-    subst (λ es. IsNearest es p a) (sym whole) h
+    subst (λ es. IsNearest es p new) (sym whole) (subst (IsNearest (read_by k n (take i ms)) p) (sym same) h)
 
 pub none_read : (k n p : ℕ) (ms : List (MaintainerState Record)) → IsNearest (read_by k n (take 0 ms)) p None
 none_read k n p ms = All-nil (λ (e : Slot Record). e.lid ≤ p)
@@ -283,3 +283,9 @@ pub read_there : (held : List Stocked) (p : ℕ) (o : Option (Slot Record)) (e :
     → record_at held p ≡ Some e.value
 read_there held p o e rising some next is =
     (at_place held 0 p rising some).is ∙ ap (option_map (λ (x : Stocked). x.rec)) (sym next ∙ ap (option_map stocked) is)
+
+pub nearest_at_end : (ms items : List (MaintainerState Record)) (k n i p : ℕ) (o : Option (Slot Record)) → items ≡ ms → i ≡ length items → AreApart ms → IsNearest (read_by k n (take i items)) p o
+    → option_map stocked o ≡ find (λ (x : Stocked). ltb p x.lid) (stock_of ms k n)
+nearest_at_end ms items k n i p o same whole apart h =
+    let P : List (MaintainerState Record) → Type 0 = λ xs. IsNearest (read_by k n xs) p o in
+    nearest_is ms k n p o apart (subst P (ap (λ j. take j items) whole ∙ take-length items ∙ same) h)

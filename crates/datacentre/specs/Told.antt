@@ -16,14 +16,17 @@ pub record AreApart (ms : List (MaintainerState Record)) : Type 0 where
   pub first : All (λ m. All (λ e. 1 ≤ e.lid) m.entries) ms
   pub once : (p : ℕ) → filled p ms ≤ 1
 
--- Sender k of so many at d may tell e: both are datacentres of the table, whose counts are in their range, and what
--- the sender has of its own has a spelling.
-pub record MayTell (d e k senders : ℕ) (ms : List (MaintainerState Record)) (table : List (List ℕ)) : Type 0 where
+-- One of so many senders at d may look at what it could tell e: both are datacentres of the table.
+pub record MayLook (d e senders : ℕ) (ms : List (MaintainerState Record)) (table : List (List ℕ)) : Type 0 where
   pub from : d < length table
   pub to : e < length table
   pub some : 1 ≤ senders
-  pub counts : (i h : ℕ) → entry_of table i h < 2 ^ 48
   pub apart : AreApart ms
+
+-- Sender k of them may tell it: the table's counts are in their range, and what it has of its own has a spelling.
+pub record MayTell (d e k senders : ℕ) (ms : List (MaintainerState Record)) (table : List (List ℕ)) : Type 0 where
+  pub look : MayLook d e senders ms table
+  pub counts : (i h : ℕ) → entry_of table i h < 2 ^ 48
   pub own : AreTellable (length table) d (records_in (stock_of ms k senders))
 
 -- the message of sender k of so many at d to e

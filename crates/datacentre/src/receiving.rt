@@ -45,8 +45,8 @@ pub fn deliver(
     Ok(TurnDone { outcome, events })
 }
 
-// The message that the packet spells.
-fn message_in(alloc: Global, packet: &Packet, table: &Aware) -> Result<Message, NoMemory>
+/// The message that the packet spells.
+pub(crate) fn message_in(alloc: Global, packet: &Packet, table: &Aware) -> Result<Message, NoMemory>
     requires { (m : MessageValue) × SpellsMessage (length table.now.table) packet.now m }
     ensures is { (m : MessageValue) → SpellsMessage (length table.now.table) packet.now m → IfOk result (λ found. found ≡ m) }
 {
@@ -57,8 +57,8 @@ fn message_in(alloc: Global, packet: &Packet, table: &Aware) -> Result<Message, 
     }
 }
 
-// The names of the records, in order.
-fn names_of(records: &Seq<Record>) -> Result<Seq<(DcId, Toid)>, NoMemory>
+/// The names of the records, in order.
+pub(crate) fn names_of(records: &Seq<Record>) -> Result<Seq<(DcId, Toid)>, NoMemory>
     ensures { IfOk result (λ names. names ≡ names_of records.now) }
 {
     let mut names = Seq::new(records.alloc());

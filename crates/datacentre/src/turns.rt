@@ -8,3 +8,4 @@ pub use crate::learning::learn;
 pub use crate::placing::place;
 pub use crate::telling::gossip;
 pub use crate::receiving::deliver;
+pub use crate::sending::{SendDone, has_more, send};

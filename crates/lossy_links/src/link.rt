@@ -48,6 +48,7 @@ impl Link {
         })
     }
 
+    /// How many packets are on their way: 0 to 64.
     pub fn len(&self) -> usize
         ensures value { result ≡ length self.now }
         ensures within { length self.now ≤ 64 }
@@ -55,6 +56,7 @@ impl Link {
         self.packets.len()
     }
 
+    /// Whether no packet is on its way.
     pub fn is_empty(&self) -> bool
         ensures { IsTrue result ↔ (self.now ≡ []) }
     {

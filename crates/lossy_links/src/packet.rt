@@ -49,6 +49,7 @@ impl Packet {
         bytes
     }
 
+    /// The message in its wire form, byte for byte.
     pub fn as_bytes(&self) -> &[u8]
         ensures { result.now ≡ self.now }
     {

@@ -40,6 +40,7 @@ announce_keeps w d z g t none late room inside h =
         enough = h.sound.enough;
       };
       mapped = h.mapped;
+      served = h.served;
       aware = h.aware;
       below = h.below;
       safe = h.safe;

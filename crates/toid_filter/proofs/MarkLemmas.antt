@@ -6,7 +6,7 @@ use Rattle.std.proofs.lemmas.List.{get_or-set_same, get_or-set_other, length-set
 use Rattle.std.proofs.lemmas.List.Elements.{All-nil, All-weaker, All-push, All-append, All-filter, All-map, All-head, All-tail, All-contains}
 use Rattle.std.proofs.lemmas.List.Kept.{AllPairs-filter}
 use Rattle.std.proofs.lemmas.List.Sums.{sum_by_push}
-use Rattle.std.proofs.lemmas.Bool.{cases_eq, cases_lt, cond_both, cond-true, cond-false, leb-true, and_from, and_parts, and_cases, le-leb, le-ltb, lt-ltb, ltb-false, eqb-false, eqb-true, true≢false, false_from_ne_true}
+use Rattle.std.proofs.lemmas.Bool.{cases_eq, cases_lt, cond_both, cond-true, cond-false, leb-true, and_from, and_parts, and_cases, le-leb, le-ltb, lt-ltb, ltb-true, ltb-false, eqb-false, eqb-true, true≢false, false_from_ne_true}
 use Rattle.std.proofs.lemmas.Option.{same_Some}
 use Rattle.causal_deps.specs.declared.record.Record.{Record}
 use Rattle.causal_deps.specs.declared.record.Item.{Item}
@@ -226,6 +226,13 @@ module _ (m : List (List Share)) (h mark : ℕ) where
     | inr grew ↦ omega (arith, high, ap (λ i. (last_share m_new i).filters) grew.0)
   ]
 
+  -- where fewer than 16 filters serve the host, at most 16 do then
+  pub few_grown : (last_share m h).filters < 16 → (last_share m_new h).filters ≤ 16
+  few_grown few = elim (shares_of h) [
+    | inl same ↦ omega (arith, few, ap (λ ss. (last_of_shares sole_share ss).filters) same)
+    | inr grew ↦ omega (arith, few, ap (λ (s : Share). s.filters) (last_grown h grew.0 grew.1))
+  ]
+
   pub one_more : (n : ℕ) → ((g : ℕ) → (last_share m g).filters ≤ n) → (last_share m_new h).filters ≤ n + 1
   one_more n before = elim (shares_of h) [
     | inl same ↦ omega (arith, before h, ap (λ ss. (last_of_shares sole_share ss).filters) same)
@@ -391,6 +398,12 @@ module _ (m : List (List Share)) (a : Announcement) (fs : List FilterState) (sou
   pub grown_sound : AreSound m_grown None (filters_grown a m fs)
   grown_sound = cond_both (ltb (length fs) (last_share m_grown a.host).filters) (fs_on ++ made ∷ []) fs_on (AreSound m_grown None)
       (λ needed. sound_made) (λ enough. sound_on (ltb-false (length fs) (last_share m_grown a.host).filters enough))
+
+  -- there are no more than 16
+  pub grown_few : length fs ≤ 16 → length (filters_grown a m fs) ≤ 16
+  grown_few few = cond_both (ltb (length fs) (last_share m_grown a.host).filters) (fs_on ++ made ∷ []) fs_on (λ gs. length gs ≤ 16)
+      (λ needed. omega (arith, ltb-true (length fs) (last_share m_grown a.host).filters needed, few_grown m a.host a.mark (sound.room a refl), size_on, length_push fs_on made))
+      (λ enough. omega (arith, few, size_on))
 
   -- a filter that is made has nothing
   pub grown_sums : (g : Item → ℕ) → (in_held g (filters_grown a m fs) ≡ in_held g fs_on) × (in_out g (filters_grown a m fs) ≡ in_out g fs_on)

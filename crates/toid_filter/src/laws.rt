@@ -104,7 +104,9 @@ pub fn cancelling_keeps_filters_sound()
     ensures { (shares : List (List Share)) (announcement : Option Announcement) (fs : List FilterState) → AreSound shares announcement fs → AreSound shares None (map cancelled fs) }
 {}
 
-/// They stay sound, by the grown map, when all accepted the mark and take that map, with one filter more where it is needed.
+/// They stay sound, by the grown map, when all accepted the mark and take that map, with one filter more where it is needed;
+/// and there are no more than 16.
 pub fn activating_keeps_filters_sound()
-    ensures { (shares : List (List Share)) (a : Announcement) (fs : List FilterState) → AreSound shares (Some a) fs → length fs ≤ a.next → AreSound (grown_by a shares) None (filters_grown a shares fs) }
+    ensures sound { (shares : List (List Share)) (a : Announcement) (fs : List FilterState) → AreSound shares (Some a) fs → length fs ≤ a.next → AreSound (grown_by a shares) None (filters_grown a shares fs) }
+    ensures few { (shares : List (List Share)) (a : Announcement) (fs : List FilterState) → AreSound shares (Some a) fs → length fs ≤ a.next → length fs ≤ 16 → length (filters_grown a shares fs) ≤ 16 }
 {}

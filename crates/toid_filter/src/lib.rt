@@ -7,6 +7,9 @@
 //! none. It also serves when the map grows: that happens at a mark above all that was passed, and
 //! below the mark the map deals as before.
 //!
+//! What a filter holds stands in an ordered map, by host and then by number. A take looks once for
+//! the record there, and once for each held record that it lets go on.
+//!
 //! The model of a filter is a `FilterState`; what a call of `take` does is the relation `IsTaken`.
 //! The layer above gets from it that each number passes at most once, in rising order, and that
 //! nothing is lost.

@@ -93,6 +93,14 @@ fn malformed_records_are_told_at_their_place(rt: HostRuntime) -> Result<(), Fail
     let mut tagged = with_record(alloc, &HEAD)?;
     tagged.extend_from_slice(&[1, 0])?;
     assert_eq!(rt; message_fault(alloc, &tagged), Some(70));
+
+    // A blank is no byte of a name, and none of a body.
+    let mut named = with_record(alloc, &HEAD)?;
+    named.extend_from_slice(&[1, 3, b'a', b' ', b'c'])?;
+    assert_eq!(rt; message_fault(alloc, &named), Some(72));
+    let mut bodied = with_record(alloc, &HEAD)?;
+    bodied.extend_from_slice(&[0, 0, 3, b'h', b' ', b'i'])?;
+    assert_eq!(rt; message_fault(alloc, &bodied), Some(73));
     Ok(())
 }
 

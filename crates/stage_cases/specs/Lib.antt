@@ -1,0 +1,8 @@
+pub mod Pieces
+pub mod Reading
+pub mod Linking
+pub mod Joining
+pub mod Fitting
+pub mod Idling
+pub mod Sharing
+pub mod Limits
