@@ -1,5 +1,5 @@
 -- A session may take its turn at stages that stand for a log.
-use Rattle.std.proofs.Common.{◌≡◌, ◌≢◌, ℕ, zero, suc, ◌+◌, ◌-◌, ◌^◌, ◌%◌, ◌<◌, ◌≤◌, true, false, cond, eqb, List, [], ◌∷◌, ◌++◌, Option, Some, None, length, map, get_or, IsSome, refl, ap, ap₂, sym, ◌∙◌, subst, inl, inr, arith}
+use Rattle.std.proofs.Common.{◌≡◌, ◌≢◌, ℕ, zero, suc, ◌+◌, ◌-◌, ◌^◌, ◌%◌, ◌<◌, ◌≤◌, true, false, cond, eqb, List, [], ◌∷◌, ◌++◌, Option, Some, None, length, map, get_or, IsSome, refl, ap, sym, ◌∙◌, subst, inl, inr, arith}
 use Rattle.std.specs.List.{All, Contains, flat_map, slice_get}
 use Rattle.std.specs.Option.{ForSome, option_and_then, unwrap_or}
 use Rattle.std.proofs.Math.Nat.{mod-lt}
@@ -13,7 +13,7 @@ use Rattle.abstract_log.specs.declared.command.Command.{Command}
 use Rattle.abstract_log.specs.declared.command.Command.TheVariants.{Append, Put, Get, Tx, Read as ReadCommand, Last}
 use Rattle.abstract_log.specs.declared.world.World.{World}
 use Rattle.abstract_log.specs.declared.world.Standing.{Standing}
-use Rattle.abstract_log.specs.Worlds.{log_of, plan_of}
+use Rattle.abstract_log.specs.Worlds.{log_of}
 use Rattle.abstract_log.specs.Commands.{no_plan}
 use Rattle.log_laws.specs.Lawful.{IsLawful}
 use Rattle.log_laws.specs.Records.{IsValid}
@@ -24,15 +24,15 @@ use Rattle.flstore_rounds.specs.Heads.{Pair, IsTruePair, blank, head, mark_at}
 use Rattle.flstore_rounds.proofs.EpochLemmas.{owner-prefix}
 use Rattle.flstore_rounds.proofs.HeadLemmas.{head_below, head_filled}
 use Rattle.maintainer.specs.declared.slot.Slot.{Slot}
-use Rattle.maintainer.specs.Maintainers.{IsEntryOf, IsFilled, IsOwn, MaintainerState, Owns, OwnsAll, plain, times_filled, times_in, value_at}
-use Rattle.maintainer.proofs.CountLemmas.{value_at-absent, value_at-log}
+use Rattle.maintainer.specs.Maintainers.{IsEntryOf, IsOwn, MaintainerState, Owns, OwnsAll, plain, times_filled, times_in, value_at}
+use Rattle.maintainer.proofs.CountLemmas.{value_at-log}
 use Rattle.maintainer.proofs.SlotLemmas.{value_at-filled}
 use Rattle.maintainer.proofs.OwnLemmas.{owns_filled}
 use Rattle.stage_world.specs.Stages.{Datacentre, IsFilledIn, Session, maintainer_at, no_epochs, no_maintainer, vector_at}
 use Rattle.stage_world.specs.StandsFor.{IsAsFar, StandsAt}
 use Rattle.stage_world.specs.MoreTurns.{record_kept}
 use Rattle.stage_world.proofs.FilledLemmas.{All-flat_map, no_record}
-use Rattle.datacentre.specs.Clients.{IsKeptByOwner, MayRead, MayWrite, next_command, position_in, position_of, read_by, top_in, writes}
+use Rattle.datacentre.specs.Clients.{IsKeptByOwner, MayRead, MayWrite, next_command, position_in, position_of, read_by, writes}
 
 -- Several maintainers' entries together: what stands at a position, where one of them alone may have it.
 
@@ -181,13 +181,13 @@ module _ (w : World) (d : ℕ) (z : Datacentre) (lawful : IsLawful w) (h : Stand
         by_command (Some c) is some = by_position c (position_in c) is refl some
 
     -- a session whose turn is that of a read may take it at lent maintainers, whatever room they have
-    pub may_read : (lent : List (MaintainerState Record)) → 1 ≤ z.first → z.first ≤ length z.vectors → IsSome (read_by x) → map plain lent ≡ ms → MayRead x.number z.first x lent z.vectors
-    may_read lent some enough reads same = record {
+    pub may_read : (lent : List (MaintainerState Record)) → IsSome (read_by x) → map plain lent ≡ ms → MayRead x.number z.first x lent z.vectors
+    may_read lent reads same = record {
       number = refl;
       reads = reads;
       few = few_commands;
       position = first_position reads;
-      some = some;
+      some = h.served.0;
       vector = served;
       kept = λ p first high. kept_plain_owner (length x.standing.past) (vector_at z.vectors (x.number % z.first)).epochs lent p
           (subst (λ ns. IsKeptByOwner (length x.standing.past) (vector_at z.vectors (x.number % z.first)).epochs ns p) (sym same)
@@ -195,4 +195,4 @@ module _ (w : World) (d : ℕ) (z : Datacentre) (lawful : IsLawful w) (h : Stand
     }
       where
         served : x.number % z.first < length z.vectors
-        served = omega (arith, mod-lt x.number some, enough)
+        served = omega (arith, mod-lt x.number h.served.0, h.served.1)

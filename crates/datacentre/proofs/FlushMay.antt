@@ -1,15 +1,15 @@
 -- A flush may be taken at stages that stand for a log, and a pass is seen as its turn.
 use Rattle.abstract_log.specs.Worlds.{pending_of}
-use Rattle.std.proofs.Common.{◌≡◌, ℕ, ◌<◌, ◌++◌, List, [], get_or, length, refl, ap, sym, subst, arith}
+use Rattle.std.proofs.Common.{◌≡◌, ℕ, ◌<◌, ◌++◌, List, [], get_or, length, ap, sym, arith}
 use Rattle.std.specs.List.{All}
 use Rattle.std.proofs.lemmas.List.Elements.{All-get_or}
 use Rattle.causal_deps.specs.declared.record.Item.{Item}
 use Rattle.causal_deps.specs.declared.record.Item.TheVariants.{Local, External}
 use Rattle.abstract_log.specs.declared.world.World.{World}
 use Rattle.token_queue.specs.Queues.{QueueState, tokenless}
-use Rattle.stage_world.specs.Stages.{Datacentre, batcher_at, queue_at}
+use Rattle.stage_world.specs.Stages.{Datacentre, batcher_at}
 use Rattle.stage_world.specs.StandsFor.{StandsAt, IsDue}
-use Rattle.datacentre.specs.Flushing.{AreServing, IsOfHosts, MayFlush}
+use Rattle.datacentre.specs.Flushing.{IsOfHosts, MayFlush}
 
 of_host : (w : World) (d : ℕ) (hosts : ℕ) (x : Item) → w.workload.dcs ≡ hosts → IsDue w.workload w.sessions w.logs (pending_of w d) d x → IsOfHosts hosts x
 of_host w d hosts (Local draft) same due = tt

@@ -1,5 +1,5 @@
 -- Items go from a batcher to the filters, one after another.
-use Rattle.std.proofs.Common.{◌≡◌, ℕ, ◌%◌, ◌<◌, ◌≤◌, true, false, List, [], ◌∷◌, ◌++◌, length, map, fold, get_or, set, refl, ap, ap₂, sym, ◌∙◌, subst, inl, inr, arith, Bool, cond, append_assoc, append-nil}
+use Rattle.std.proofs.Common.{◌≡◌, ℕ, ◌<◌, true, false, List, [], ◌∷◌, ◌++◌, length, map, fold, get_or, set, refl, ap, ap₂, sym, ◌∙◌, subst, inl, inr, arith, cond, append_assoc, append-nil}
 use Rattle.std.specs.List.{All}
 use Rattle.std.proofs.lemmas.List.{get_or-set_same, get_or-set_other, length-set}
 use Rattle.std.proofs.lemmas.List.Elements.{All-get_or, All-head, All-tail, All-cons}
@@ -10,13 +10,12 @@ use Rattle.causal_deps.specs.declared.record.Item.TheVariants.{Local, External}
 use Rattle.abstract_log.specs.declared.script.FlushItem.{FlushItem}
 use Rattle.abstract_log.specs.declared.script.Way.{Way}
 use Rattle.abstract_log.specs.declared.script.Way.TheVariants.{Passed as PassedWay, Held as HeldWay, Dropped as DroppedWay}
-use Rattle.abstract_log.specs.declared.script.Outcome.{Outcome}
 use Rattle.abstract_log.specs.declared.script.Outcome.TheVariants.{Flushed}
 use Rattle.toid_filter.specs.declared.champions.Share.{Share}
 use Rattle.toid_filter.specs.declared.filter.Verdict.{Verdict}
 use Rattle.toid_filter.specs.declared.filter.Verdict.TheVariants.{Passed, Held, Dropped}
 use Rattle.toid_filter.specs.Champions.{champion}
-use Rattle.toid_filter.specs.Filters.{FilterState, IsTaken, Fits, filter_at, no_filter, with_item, with_record, with_held, released, is_known, is_free}
+use Rattle.toid_filter.specs.Filters.{FilterState, IsTaken, filter_at, no_filter, with_item, with_held, released, is_known, is_free}
 use Rattle.batcher.specs.Batchers.{filter_for, parcel_of, HasNumber}
 use Rattle.batcher.specs.declared.Parcel.{Parcel}
 use Rattle.stage_world.specs.Turns.{taken_by, flush_item, flush_items, unless_empty, way_of}

@@ -10,6 +10,7 @@ pub mod Flushes
 pub mod FlushMay
 pub mod ReadLemmas
 pub mod ClientMay
+pub mod ClientIs
 pub mod PlacingLemmas
 pub mod LearningLemmas
 pub mod TellingLemmas

@@ -1,5 +1,5 @@
 -- What filters take from a batcher.
-use Rattle.std.specs.Prelude.{◌≡◌, ⊤, ℕ, ◌<◌, ◌≤◌, List, [], ◌∷◌, length, slice_set, All}
+use Rattle.std.specs.Prelude.{◌≡◌, ⊤, ℕ, ◌<◌, ◌≤◌, List, length, slice_set, All}
 use Rattle.causal_deps.specs.declared.record.Item.{Item}
 use Rattle.causal_deps.specs.declared.record.Item.TheVariants.{Local, External}
 use Rattle.abstract_log.specs.declared.script.FlushItem.{FlushItem}

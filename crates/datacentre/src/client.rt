@@ -92,7 +92,12 @@ pub fn client_read(
             events,
         });
     }
-    let shown = shown_at(&note.epochs, maintainers.as_slice(), session.position(), top)?;
+    let shown = shown_at(
+        &note.epochs,
+        maintainers.as_slice(),
+        session.position(),
+        top,
+    )?;
     session.reply(top, &shown);
     events.push(Event::Reply {
         dc,

@@ -23,7 +23,7 @@ reply-requires-clause-hosts c =
     let epochs = ap (λ (v : Pair). v.epochs) c.in_ok-note.ensures.note in
     let past = ap (λ (x : Session). length x.standing.past) c.in_ok-events.ensures.session in
     let hosts = hosts_shown (length c.args.session.now.standing.past) c.position.result c.head-top.result c.args.maintainers.now
-        (λ below. (kept_for _ _ _ _ _ _ c.requires is _ _ _ epochs c.head-top.ensures.value reads below).host) in
+    (λ below. (kept_for _ _ _ _ _ _ c.requires is _ _ _ epochs c.head-top.ensures.value reads below).host) in
     let shown = c.in_ok-shown.ensures ∙ ap (λ ms. shown_in ms c.position.result c.head-top.result) c.as_slice-2.ensures in
     subst (λ n. All (λ (place : Place). place.host < n) (shown_places c.in_ok-shown.shown)) (sym past)
     (subst (λ answer. All (λ (place : Place). place.host < length c.args.session.now.standing.past) (shown_places answer)) (sym shown) hosts)
