@@ -1,18 +1,18 @@
 -- What a sender reads of its maintainers: the entries by rising position.
-use Rattle.std.proofs.Common.{◌≡◌, ℕ, zero, suc, ◌+◌, ◌-◌, ◌%◌, ◌<◌, ◌≤◌, Bool, true, false, cond, ltb, eqb, List, [], ◌∷◌, ◌++◌, length, get_or, take, find, Option, Some, None, IsSome, refl, ap, sym, ◌∙◌, subst, inl, inr, arith}
+use Rattle.std.proofs.Common.{◌≡◌, ℕ, suc, ◌+◌, ◌-◌, ◌%◌, ◌<◌, ◌≤◌, cond, ltb, eqb, List, [], ◌∷◌, ◌++◌, length, get_or, take, find, Option, Some, None, IsSome, refl, ap, sym, ◌∙◌, subst, inl, inr, arith}
 use Rattle.std.specs.List.{All, Contains, flat_map, fold, sum_by}
 use Rattle.std.specs.Option.{option_map}
 use Rattle.std.proofs.Math.Seq.{take-suc, take-length}
 use Rattle.std.proofs.lemmas.Bool.{cases_lt, cases_eq, cond-true, cond-false, cond_both, eq-eqb, ne_eqb, lt-ltb, le-ltb}
 use Rattle.std.proofs.lemmas.Grind.{flat_map-append}
 use Rattle.std.proofs.lemmas.List.{append-nil}
-use Rattle.std.proofs.lemmas.List.Elements.{All-nil, All-cons, All-head, All-tail, All-append, All-get_or, All-weaker, Contains-append_left, Contains-append_right}
+use Rattle.std.proofs.lemmas.List.Elements.{All-nil, All-cons, All-head, All-tail, All-append, Contains-append_left, Contains-append_right}
 use Rattle.std.proofs.lemmas.List.Sums.{sum_by-cons, sum_by-append}
 use Rattle.causal_deps.specs.declared.record.Record.{Record}
 use Rattle.maintainer.specs.declared.slot.Slot.{Slot}
 use Rattle.maintainer.specs.Maintainers.{AreRising, MaintainerState, entry_after, times_in}
 use Rattle.maintainer.proofs.CountLemmas.{rising-tail}
-use Rattle.sender_receiver.specs.Stocks.{Stocked, IsRisingFrom, place_after, record_at}
+use Rattle.sender_receiver.specs.Stocks.{Stocked, IsRisingFrom, record_at}
 use Rattle.stage_world.specs.Stages.{filled}
 use Rattle.stage_world.specs.MoreTurns.{sorted_in, stock_of, stocked}
 use Rattle.stage_world.proofs.ListLemmas.{Contains-head, Contains-tail, Contains-cases}
@@ -77,7 +77,6 @@ there-sorted e held (y ∷ ys) has = elim (Contains-cases y e ys has) [
   | inr later ↦ there-sorted e (sorted_in (stocked y) held) ys later
 ]
 
-
 -- the entries are apart from one another and from what is held
 rising-sorted : (held : List Stocked) (es : List (Slot Record)) → IsRisingFrom 0 held → All (λ (e : Slot Record). 1 ≤ e.lid) es → ((p : ℕ) → times_in p es ≤ 1)
     → All (λ (x : Stocked). times_in x.lid es ≡ 0) held → IsRisingFrom 0 (sorted_with held es)
@@ -86,7 +85,7 @@ rising-sorted held (e ∷ es) rising first once apart =
     let count : (p : ℕ) → times_in p (e ∷ es) ≡ cond (eqb e.lid p) 1 0 + times_in p es = λ p. sum_by-cons (λ (x : Slot Record). cond (eqb x.lid p) 1 0) e es in
     let here : cond {A = ℕ} (eqb e.lid e.lid) 1 0 ≡ 1 = cond-true {A = ℕ} (eqb e.lid e.lid) 1 0 (eq-eqb e.lid e.lid refl) in
     let others : All (λ (x : Stocked). x.lid ≡ e.lid → ⊥) held = λ k x within same.
-        absurd (omega (arith, apart k x within, count (get_or held k x).lid, cond-true {A = ℕ} (eqb e.lid (get_or held k x).lid) 1 0 (eq-eqb e.lid (get_or held k x).lid (sym same)))) in
+    absurd (omega (arith, apart k x within, count (get_or held k x).lid, cond-true {A = ℕ} (eqb e.lid (get_or held k x).lid) 1 0 (eq-eqb e.lid (get_or held k x).lid (sym same)))) in
     let still : All (λ (x : Stocked). times_in x.lid es ≡ 0) held = λ k x within. omega (arith, apart k x within, count (get_or held k x).lid) in
     let none : times_in e.lid es ≡ 0 = omega (arith, once e.lid, count e.lid, here) in
     rising-sorted (sorted_in (stocked e) held) es

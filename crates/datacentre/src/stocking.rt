@@ -25,10 +25,7 @@ impl<'a> SenderStock<'a> {
 }
 
 // The one at the lesser position.
-fn nearer<'a>(
-    a: Option<&'a Slot<Record>>,
-    b: Option<&'a Slot<Record>>,
-) -> Option<&'a Slot<Record>>
+fn nearer<'a>(a: Option<&'a Slot<Record>>, b: Option<&'a Slot<Record>>) -> Option<&'a Slot<Record>>
     ensures { option_copied result ≡ nearer_of (option_copied a.entry) (option_copied b.entry) }
 {
     match (a, b) {
