@@ -16,5 +16,7 @@ pub mod LearningLemmas
 pub mod TellingLemmas
 pub mod StockLemmas
 pub mod WholeTurns
+pub mod WholeLinks
+pub mod OpenedLemmas
 pub mod NewsLemmas
 pub mod ToldLemmas

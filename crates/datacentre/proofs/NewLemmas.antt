@@ -51,6 +51,29 @@ module _ (e : EpochList) (n : ℕ) (some : 1 ≤ n) (t : TokenState) (first : t.
         ∙ get_or-numbered (λ i. new_queue i e) n i no_queue (omega (arith, within, length-set queues 0 (held (new_queue 0 e)), length-numbered (λ i. new_queue i e) n)));
   })
 
+-- the first queue of these may take the token
+pub record MayHold (qs : List QueueState) : Type 0 where
+  pub some : 1 ≤ length qs
+  pub free : (queue_at qs 0).token ≡ None
+
+pub may_hold : (e : EpochList) (n : ℕ) (qs : List QueueState) → 1 ≤ n → qs ≡ numbered (λ i. new_queue i e) n → MayHold qs
+may_hold e n qs some is = record {
+  some = omega (arith, ap (λ (xs : List QueueState). length xs) is, length-numbered (λ i. new_queue i e) n);
+  free = ap (λ xs. (queue_at xs 0).token) is ∙ ap (λ (q : QueueState). q.token) (get_or-numbered (λ i. new_queue i e) n 0 no_queue some);
+}
+
+-- and once it has it
+pub record IsRing (e : EpochList) (n : ℕ) (t : TokenState) (qs : List QueueState) : Type 0 where
+  pub seen : queues_seen qs ≡ numbered (λ i. new_queue i e) n
+  pub has : HaveToken qs t
+
+pub is_ring : (e : EpochList) (n : ℕ) (t t' : TokenState) (qs new : List QueueState) → 1 ≤ n → t.at ≡ 0 → qs ≡ numbered (λ i. new_queue i e) n → t' ≡ t
+    → new ≡ set qs 0 (record (queue_at qs 0) { token = Some (record t' { at = (queue_at qs 0).number }) }) → IsRing e n t new
+is_ring e n t t' qs new some first is same held =
+    let all : new ≡ set (numbered (λ i. new_queue i e) n) 0 (record (queue_at (numbered (λ i. new_queue i e) n) 0) { token = Some (record t { at = (queue_at (numbered (λ i. new_queue i e) n) 0).number }) }) =
+    held ∙ ap₂ (λ xs (u : TokenState). set xs 0 (record (queue_at xs 0) { token = Some (record u { at = (queue_at xs 0).number }) })) is same in
+    record { seen = ring_seen e n some t first new all; has = ring_has e n some t first new all }
+
 -- indexers that know nothing yet, from number k on
 indexers_push : (k n : ℕ) (v : Pair) → indexers_from k (replicate (suc n) v) ≡ indexers_from k (replicate n v) ++ (record { number = k + n; pair = v; rows = [] }) ∷ []
 indexers_push k zero v = ap (λ i. (record { number = i; pair = v; rows = [] }) ∷ []) (plus-none k)
@@ -66,4 +89,6 @@ indexers_push k (suc n) v =
 
 pub indexers_new : (n : ℕ) (v : Pair) → indexers_from 0 (replicate n v) ≡ numbered (λ i. record { number = i; pair = v; rows = [] }) n
 indexers_new zero v = refl
-indexers_new (suc n) v = indexers_push 0 n v ∙ ap (λ is. is ++ (record { number = n; pair = v; rows = [] }) ∷ []) (indexers_new n v)
+indexers_new (suc n) v =
+    let last : 0 + n ≡ n = omega arith in
+    indexers_push 0 n v ∙ ap₂ (λ (is : List Indexer) (i : ℕ). is ++ (record { number = i; pair = v; rows = [] }) ∷ []) (indexers_new n v) last

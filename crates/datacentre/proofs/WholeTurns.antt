@@ -81,7 +81,7 @@ flush_is p b x y fs done may within is empty filters outcome events =
     there p (record p { batchers = set p.batchers b y; filters = fs }) done (ltb b (length p.batchers)) (flush_turn z b) (lt-ltb b (length p.batchers) within) (record {
       stages = ap₂ (λ (ys : List Item) gs. record z { batchers = set p.batchers b ys; filters = gs }) empty (filters ∙ ap (fold (taken_by p.map) p.filters) at);
       here = refl;
-      whole = record { token = may.whole.token; table = may.whole.table; senders = may.whole.senders; first = may.whole.first };
+      whole = record { token = may.whole.token; table = may.whole.table; senders = may.whole.senders };
       outcome = outcome ∙ ap (λ (xs : List Item). unless_empty xs (Flushed (flush_items p.map p.filters xs))) at;
       events = events;
     })
@@ -129,7 +129,7 @@ pass_is p f q x y fs done may in_f in_q is filters new outcome events =
           ∙ ap (λ t. record z { filters = set p.filters f (record (filter_at p.filters f) { out = [] }); queues = set z.queues q (record (queue_at z.queues q) { items = (queue_at z.queues q).items ++ items }); token = t })
           (token_stays p.queues z.token q y may.whole.token in_q kept);
       here = refl;
-      whole = record { token = have_seen p.queues z.token q y may.whole.token in_q kept; table = may.whole.table; senders = may.whole.senders; first = may.whole.first };
+      whole = record { token = have_seen p.queues z.token q y may.whole.token in_q kept; table = may.whole.table; senders = may.whole.senders };
       outcome = outcome;
       events = events;
     })
@@ -158,7 +158,7 @@ stamp_is p q x y xs done may within is new sessions outcome events =
           ∙ ap (λ ss. record z { sessions = ss; queues = turned.after.queues; token = turned.after.token }) (sessions ∙ ap (λ a. sessions_stamped a p.sessions) at ∙ turn.sessions)
           ∙ sym turn.others;
       here = refl;
-      whole = record { token = subst (HaveToken (set p.queues q y)) (sym token) has; table = may.whole.table; senders = may.whole.senders; first = may.whole.first };
+      whole = record { token = subst (HaveToken (set p.queues q y)) (sym token) has; table = may.whole.table; senders = may.whole.senders };
       outcome = outcome ∙ ap outcome_stamped at ∙ turn.outcome;
       events = events ∙ ap (events_stamped p.dc) at ∙ turn.events;
     })
@@ -174,7 +174,7 @@ pub token_moved_is : (p : Parts) (qs : List QueueState) (done : TurnDone) → Ma
 token_moved_is p qs done may queues token has outcome events = record {
   stages = ap₂ (λ xs t. record (seen p) { queues = xs; token = t }) queues token;
   here = refl;
-  whole = record { token = subst (HaveToken qs) (sym token) has; table = may.whole.table; senders = may.whole.senders; first = may.whole.first };
+  whole = record { token = subst (HaveToken qs) (sym token) has; table = may.whole.table; senders = may.whole.senders };
   outcome = outcome;
   events = events;
 }
@@ -216,7 +216,7 @@ place_is p q m queue queue' x x' done may in_q in_m is_q is_m new_q new_m outcom
           (map-set (λ (y : MaintainerState Record). plain y) p.maintainers m x' ∙ turn.maintainers)
           ∙ ap (λ t. record turned.after { token = t }) (token_stays p.queues z.token q queue' may.whole.token in_q kept);
       here = refl;
-      whole = record { token = have_seen p.queues z.token q queue' may.whole.token in_q kept; table = may.whole.table; senders = may.whole.senders; first = may.whole.first };
+      whole = record { token = have_seen p.queues z.token q queue' may.whole.token in_q kept; table = may.whole.table; senders = may.whole.senders };
       outcome = turn.outcome;
       events = events;
     })
@@ -239,14 +239,11 @@ gossip_is p m k x x' vs done may in_m in_k is same told outcome events =
     let turned : Turned = gossip_turn z m k in
     let left : set p.maintainers m x' ≡ p.maintainers = ap (set p.maintainers m) (same ∙ lent_is p.maintainers m x no_maintainer is in_m) ∙ set-get_or p.maintainers m no_maintainer in
     let vectors : vs ≡ turned.after.vectors = told ∙ gossip_is_turn z m k x (maintainer_lent p m x in_m is) in
-    let own : Pair = own_vector m x p.vectors m in
-    let size : length vs ≡ length p.vectors =
-    ap (λ ws. length ws) told ∙ length-set (set p.vectors m own) k _ ∙ length-set p.vectors m own in
     there p (record p { maintainers = set p.maintainers m x'; vectors = vs }) done (ltb m (length p.maintainers) && ltb k (length p.maintainers)) turned
     (both_true (ltb m (length p.maintainers)) (ltb k (length p.maintainers)) (lt-ltb m (length p.maintainers) in_m) (lt-ltb k (length p.maintainers) in_k)) (record {
       stages = ap₂ (λ ms ws. record z { maintainers = maintainers_seen ms; vectors = ws }) left vectors;
       here = refl;
-      whole = record { token = may.whole.token; table = may.whole.table; senders = may.whole.senders; first = (may.whole.first.0, omega (arith, may.whole.first.1, size)) };
+      whole = record { token = may.whole.token; table = may.whole.table; senders = may.whole.senders };
       outcome = outcome ∙ ap (λ ws. Head (head (vector_at ws k))) vectors;
       events = events;
     })
@@ -254,7 +251,7 @@ gossip_is p m k x x' vs done may in_m in_k is same told outcome events =
 -- learn
 
 first_there : (p : Parts) → MayTurn p → 0 < length p.vectors
-first_there p may = omega (arith, may.whole.first.0, may.whole.first.1)
+first_there p may = omega (arith, may.log.stands.served.0, may.log.stands.served.1)
 
 pub vector_there : (p : Parts) → MayTurn p → 0 < length p.vectors
 vector_there p may = first_there p may
@@ -285,7 +282,6 @@ learn_is p v v' ms table learnt done may is maintainers vector new upto outcome 
         token = may.whole.token;
         table = ap (λ (t : Awareness). t.dc) new ∙ may.whole.table;
         senders = may.whole.senders;
-        first = (may.whole.first.0, omega (arith, may.whole.first.1, length-set p.vectors 0 v'));
       };
       outcome = outcome ∙ ap (λ t. Learnt (row_of t p.dc)) rows;
       events = events ∙ ap (λ a. row_events p.dc (row_of p.table.table p.dc) (row_learnt p.dc p.maintainers a p.table.table p.learnt)) at ∙ turn.events;

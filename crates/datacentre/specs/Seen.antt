@@ -1,5 +1,5 @@
 -- What contracts see of a datacentre.
-use Rattle.std.specs.Prelude.{◌≡◌, ℕ, ◌+◌, ◌≤◌, Bool, if◌then◌else◌, nat_lt, List, [], ◌∷◌, length, replicate, Option, Some, None, All}
+use Rattle.std.specs.Prelude.{◌≡◌, ℕ, ◌+◌, Bool, if◌then◌else◌, nat_lt, List, [], ◌∷◌, length, replicate, Option, Some, None, All}
 use Rattle.abstract_log.specs.declared.world.World.{World}
 use Rattle.flstore_rounds.specs.Epochs.{EpochList}
 use Rattle.flstore_rounds.specs.Heads.{Pair}
@@ -44,12 +44,11 @@ seen p = record {
 abbrev pub state_of : Bool → Parts → DatacentreState
 state_of failed p = record { dc = p.dc; stages = if failed then None else Some (seen p) }
 
--- One queue has the token; table and senders are the datacentre's own; the maintainers of the start, of which each has its vector, are there.
+-- One queue has the token; table and senders are the datacentre's own.
 pub record IsWhole (p : Parts) : Type 0 where
   pub token : HaveToken p.queues (token_seen p.queues)
   pub table : p.table.dc ≡ p.dc
   pub senders : All (λ s. s.dc ≡ p.dc) p.senders
-  pub first : (1 ≤ p.first_maintainers) × (p.first_maintainers ≤ length p.vectors)
 
 -- Stages of datacentre d that stand for some log: that of a world which a run has left.
 pub record StandsForALog (d : ℕ) (z : Datacentre) : Type 0 where

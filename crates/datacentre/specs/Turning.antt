@@ -1,11 +1,15 @@
 -- What a turn of a datacentre asks, what it leaves, and what it answers.
-use Rattle.std.specs.Prelude.{◌≡◌, ◌×◌, ⊤, ⊥, ℕ, List, Option, Some, None, All, Result, MatchResult}
+use Rattle.std.specs.Prelude.{◌≡◌, ⊤, ⊥, ℕ, ◌<◌, ◌≤◌, false, List, length, Option, Some, None, All, Result, MatchOption, MatchResult}
 use Rattle.abstract_log.specs.declared.command.Command.{Command}
 use Rattle.abstract_log.specs.declared.command.Command.TheVariants.{Append, Put, Get, Tx, Read, Last}
 use Rattle.abstract_log.specs.declared.script.Step.{Step}
 use Rattle.abstract_log.specs.declared.script.Step.TheVariants.{Client, Flush, Pass, Stamp, Token, Place, Gossip, Post, Learn, Send, Deliver, Lose, Copy, Floor, Collect, Announce, Mark, AddMaintainer, AddBatcher, AddQueue, AddSender, AddReceiver}
 use Rattle.stage_world.specs.Stages.{Datacentre}
-use Rattle.stage_world.specs.Turns.{Turned}
+use Rattle.abstract_log.specs.declared.script.Outcome.TheVariants.{Sent}
+use Rattle.record_codec.specs.Wire.{SpellsMessage}
+use Rattle.stage_world.specs.Turns.{Turned, quiet}
+use Rattle.stage_world.specs.MoreTurns.{message_of, names_of}
+use Rattle.stage_world.specs.Schedules.{turn_of}
 use Rattle.datacentre.specs.declared.parts.Parts.{Parts}
 use Rattle.datacentre.specs.declared.done.TurnDone.{TurnDone}
 use Rattle.datacentre.specs.Seen.{DatacentreState, IsWhole, StandsForALog, seen}
@@ -23,11 +27,33 @@ pub record IsTurned (old new : Parts) (done : TurnDone) (turned : Turned) : Type
   pub outcome : done.outcome ≡ turned.outcome
   pub events : done.events ≡ turned.events
 
--- A datacentre took this turn: its stages, the outcome and the events are the turn's, or memory was wanted and it has failed.
+-- A datacentre took this turn: its stages, the outcome and the events are the turn's.
+pub record TookTurn (d : ℕ) (turned : Turned) (done : TurnDone) (new : DatacentreState) : Type 0 where
+  pub state : new ≡ record { dc = d; stages = Some turned.after }
+  pub outcome : done.outcome ≡ turned.outcome
+  pub events : done.events ≡ turned.events
+
+-- It failed: nothing is known of its stages from then on.
+abbrev pub HasFailed : ℕ → DatacentreState → Type 0
+HasFailed d new = new ≡ record { dc = d; stages = None }
+
+-- It took the turn, or memory was wanted and it has failed.
 abbrev pub TakesTurn : {E : Type 0} → ℕ → Turned → Result TurnDone E → DatacentreState → Type 0
-TakesTurn d turned result new = MatchResult result
-    (λ done. (new ≡ record { dc = d; stages = Some turned.after }) × ((done.outcome ≡ turned.outcome) × (done.events ≡ turned.events)))
-    (λ _. new ≡ record { dc = d; stages = None })
+TakesTurn d turned result new = MatchResult result (λ done. TookTurn d turned done new) (λ _. HasFailed d new)
+
+-- what sender k answers, where its message to e is yet to go into the link
+abbrev pub send_told : ℕ → Datacentre → ℕ → ℕ → Turned
+send_told d z k e = quiet (Sent (names_of (message_of d z k e).records) 0 false) z
+
+-- The packet is sender k's message to e, and there is one exactly where the sender is there.
+abbrev pub IsPacketOf : ℕ → Datacentre → ℕ → ℕ → Option (List ℕ) → Type 0
+IsPacketOf d z k e packet = MatchOption packet (z.senders ≤ k) (λ bytes. (k < z.senders) × SpellsMessage (length z.table) bytes (message_of d z k e))
+
+-- It took the turn of sender k and made its packet for e, or it has failed.
+abbrev pub Sends : {E : Type 0} → ℕ → Datacentre → ℕ → ℕ → Result (TurnDone × Option (List ℕ)) E → DatacentreState → Type 0
+Sends d z k e result new = MatchResult result
+    (λ sent. TookTurn d (turn_of d z (Send d k e)) sent.0 new × IsPacketOf d z k e sent.1)
+    (λ _. HasFailed d new)
 
 -- an append, a put or a read
 abbrev pub IsBuiltCommand : Command → Type 0

@@ -1,4 +1,4 @@
-ghost use Rattle.std.specs.Prelude.{◌≡◌, ◌×◌, ◌<◌, ◌≤◌, Some, None, IfOk, IsErr};
+ghost use Rattle.std.specs.Prelude.{◌≡◌, ◌≢◌, ◌↔◌, ◌<◌, ◌≤◌, [], length, Some, None, IfOk, IsErr, IsTrue};
 ghost use Rattle.std.specs.List.{list_any};
 ghost use Rattle.std.specs.Option.{ForSome};
 ghost use Rattle.abstract_log.specs.Fits.{FitsLimits, FitsSizes};
@@ -6,7 +6,11 @@ ghost use Rattle.stage_world.specs.Opening.{opening_at};
 ghost use Rattle.stage_world.specs.Stages.{sizes_of};
 ghost use Rattle.stage_world.specs.Schedules.{turn_of};
 ghost use Rattle.datacentre.specs.Seen.{IsWhole, StandsForALog, is_unanswered, seen};
-ghost use Rattle.datacentre.specs.Turning.{IsBuilt, TakesTurn};
+ghost use Rattle.datacentre.specs.Turning.{IsBuilt, Sends, TakesTurn};
+ghost use Rattle.datacentre.specs.Told.{IsToldBy};
+ghost use Rattle.record_codec.specs.declared.message.Message.{Message};
+ghost use Rattle.record_codec.specs.Wire.{SpellsMessage};
+ghost use Rattle.stage_world.specs.MoreTurns.{message_of, receive_turn};
 
 use crate::opening::{
     new_batchers, new_filters, new_maintainers, new_ring, new_senders, new_sessions, new_vectors,
@@ -14,11 +18,13 @@ use crate::opening::{
 use crate::TurnDone;
 use crate::parts::Parts;
 use crate::ring::holder;
+use crate::turns;
 use abstract_log::{Sizes, Step, Workload};
 use awareness_table::Aware;
 use causal_deps::Counts;
 use cz_base::{DcId, NoMemory};
 use flstore_rounds::Epochs;
+use lossy_links::Packet;
 use std::alloc::Global;
 use std::marker::Model;
 use toid_filter::Champions;
@@ -79,6 +85,42 @@ impl Datacentre {
         turned
     }
 
+    /// The turn of sender k: what it answers, and its packet for a datacentre, where the sender is there. The outcome is that
+    /// of an empty link, into which the packet is still to go.
+    pub fn send(&mut self, k: u32, to: DcId) -> Result<(TurnDone, Option<Packet>), NoMemory>
+        requires log { ForSome self.old.stages (StandsForALog self.old.dc) }
+        requires to { ForSome self.old.stages (λ z. to < length z.table) }
+        ensures turn { ForSome self.old.stages (λ z. Sends self.old.dc z k to result self.new) }
+        ensures failed { self.old.stages ≡ None → IsErr result × (self.new ≡ self.old) }
+    {
+        if self.failed {
+            return Err(NoMemory);
+        }
+        let sent = self.parts.send(k, to);
+        self.failed = sent.is_err();
+        sent
+    }
+
+    /// A packet that was in the link from a datacentre comes to receiver r.
+    pub fn receive(
+        &mut self,
+        from: DcId,
+        r: u32,
+        packet: &Packet,
+    ) -> Result<TurnDone, NoMemory>
+        requires log { ForSome self.old.stages (StandsForALog self.old.dc) }
+        requires told { ForSome self.old.stages (λ z. IsToldBy (length z.table) from packet.now) }
+        ensures turn { ForSome self.old.stages (λ z. (m : Message) → SpellsMessage (length z.table) packet.now m → TakesTurn self.old.dc (receive_turn self.old.dc z r m) result self.new) }
+        ensures failed { self.old.stages ≡ None → IsErr result × (self.new ≡ self.old) }
+    {
+        if self.failed {
+            return Err(NoMemory);
+        }
+        let received = self.parts.receive(from, r, packet);
+        self.failed = received.is_err();
+        received
+    }
+
     /// How many members each stage has now.
     pub fn members(&self) -> Sizes
         requires { ForSome self.now.stages (StandsForALog self.now.dc) }
@@ -121,6 +163,26 @@ impl Datacentre {
             Some(token) => token.counts(),
             None => unreachable!(),
         }
+    }
+
+    /// Whether the message of sender k to a datacentre would hold a record. No memory is taken.
+    pub fn has_more(&self, k: u32, to: DcId) -> bool
+        requires log { ForSome self.now.stages (StandsForALog self.now.dc) }
+        requires to { ForSome self.now.stages (λ z. to < length z.table) }
+        ensures { ForSome self.now.stages (λ z. IsTrue result ↔ ((message_of self.now.dc z k to).records ≢ [])) }
+    {
+        if self.failed {
+            return false;
+        }
+        let parts = &self.parts;
+        turns::has_more(
+            parts.dc,
+            to,
+            k,
+            parts.senders.len() as u32,
+            &parts.maintainers,
+            &parts.table,
+        )
     }
 
     /// Whether one of its sessions has a command that is not answered.

@@ -1,17 +1,25 @@
 //! The turns of a whole datacentre: where a member is not there nothing happens, else it is lent its stages.
-ghost use Rattle.std.specs.Prelude.{◌≡◌, ◌<◌, ◌&&◌, [], nat_lt, length, IfOk};
+ghost use Rattle.std.specs.Prelude.{◌≡◌, ◌<◌, ◌&&◌, [], nat_lt, length, slice_index_or, All, IfOk};
 ghost use Rattle.abstract_log.specs.declared.script.Outcome.TheVariants.{Absent};
+ghost use Rattle.record_codec.specs.declared.message.Message.{Message};
+ghost use Rattle.record_codec.specs.Wire.{SpellsMessage};
+ghost use Rattle.stage_world.specs.Stages.{Session};
+ghost use Rattle.stage_world.specs.ClientTurns.{client_turn};
 ghost use Rattle.stage_world.specs.Turns.{flush_turn, gossip_turn, pass_turn, place_turn, stamp_turn, token_turn, where_there};
-ghost use Rattle.stage_world.specs.MoreTurns.{learn_turn};
+ghost use Rattle.stage_world.specs.MoreTurns.{learn_turn, receive_turn};
 ghost use Rattle.datacentre.specs.Seen.{seen};
 ghost use Rattle.stage_world.specs.Schedules.{turn_of};
-ghost use Rattle.datacentre.specs.Turning.{IsBuilt, IsTurned, MayTurn};
+ghost use Rattle.datacentre.specs.Clients.{writes};
+ghost use Rattle.datacentre.specs.Told.{IsToldBy};
+ghost use Rattle.datacentre.specs.Turning.{IsBuilt, IsBuiltCommand, IsPacketOf, IsTurned, MayTurn, send_told};
 
 use crate::TurnDone;
 use crate::parts::Parts;
+use crate::stamping::place_of;
 use crate::turns;
 use abstract_log::{Outcome, Step};
-use cz_base::{NoMemory, Seq};
+use cz_base::{DcId, NoMemory, Seq};
+use lossy_links::Packet;
 
 impl Parts {
     /// The turn that a step names.
@@ -21,6 +29,7 @@ impl Parts {
         ensures { IfOk result (λ done. IsTurned self.old self.new done (turn_of self.old.dc (seen self.old) step.now)) }
     {
         match step {
+            Step::Client { s } => self.client(*s),
             Step::Flush { b, .. } => self.flush(*b),
             Step::Pass { f, q, .. } => self.pass(*f, *q),
             Step::Stamp { q, .. } => self.stamp(*q),
@@ -126,6 +135,80 @@ impl Parts {
             &mut self.table,
             &mut self.learnt,
         )
+    }
+
+    /// Session s, if it lives here, begins its next command or goes on with the one that is open.
+    pub fn client(&mut self, s: u32) -> Result<TurnDone, NoMemory>
+        requires may { MayTurn self.old }
+        requires built { All (λ x. All IsBuiltCommand x.commands) self.old.sessions }
+        ensures { IfOk result (λ done. IsTurned self.old self.new done (client_turn self.old.dc (seen self.old) s)) }
+    {
+        let Some(at) = place_of(&self.sessions, s) else {
+            return Ok(self.absent());
+        };
+        if self.writes(at) {
+            turns::client_write(s, self.sessions.item_mut(at), &mut self.batchers)
+        } else {
+            turns::client_read(
+                self.dc,
+                s,
+                self.first_maintainers,
+                self.sessions.item_mut(at),
+                &mut self.maintainers,
+                &mut self.vectors,
+            )
+        }
+    }
+
+    // Whether the turn of the session at this place is that of a write.
+    fn writes(&self, at: usize) -> bool
+        requires { at < length self.now.sessions }
+        ensures { (x : Session) → x ≡ slice_index_or self.now.sessions at x → result ≡ writes x }
+    {
+        self.sessions.as_slice()[at].writes()
+    }
+
+    /// A packet of another datacentre comes to receiver r.
+    pub fn receive(
+        &mut self,
+        from: DcId,
+        r: u32,
+        packet: &Packet,
+    ) -> Result<TurnDone, NoMemory>
+        requires may { MayTurn self.old }
+        requires told { IsToldBy (length self.old.table.table) from packet.now }
+        ensures { (m : Message) → SpellsMessage (length self.old.table.table) packet.now m → IfOk result (λ done. IsTurned self.old self.new done (receive_turn self.old.dc (seen self.old) r m)) }
+    {
+        turns::deliver(
+            self.dc,
+            from,
+            r,
+            packet,
+            &mut self.batchers,
+            &mut self.table,
+        )
+    }
+
+    /// Sender k, if it is there, makes its packet for a datacentre.
+    pub fn send(&mut self, k: u32, to: DcId) -> Result<(TurnDone, Option<Packet>), NoMemory>
+        requires may { MayTurn self.old }
+        requires to { to < length self.old.table.table }
+        ensures turned { IfOk result (λ sent. IsTurned self.old self.new sent.0 (where_there (nat_lt k (length self.old.senders)) (seen self.old) (send_told self.old.dc (seen self.old) k to))) }
+        ensures packet { IfOk result (λ sent. IsPacketOf self.old.dc (seen self.old) k to sent.1) }
+    {
+        if k as usize >= self.senders.len() {
+            return Ok((self.absent(), None));
+        }
+        let senders = self.senders.len() as u32;
+        let sent = turns::send(
+            to,
+            k,
+            senders,
+            self.senders.item_mut(k as usize),
+            &self.maintainers,
+            &self.table,
+        )?;
+        Ok((sent.done, Some(sent.packet)))
     }
 
     // What is answered where a member is not there.
