@@ -18,5 +18,6 @@ pub mod StockLemmas
 pub mod WholeTurns
 pub mod WholeLinks
 pub mod OpenedLemmas
+pub mod LiveLemmas
 pub mod NewsLemmas
 pub mod ToldLemmas

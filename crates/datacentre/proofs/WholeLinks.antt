@@ -13,27 +13,30 @@ use Rattle.causal_deps.specs.Counts.{greater_rows}
 use Rattle.abstract_log.specs.declared.command.Command.{Command}
 use Rattle.abstract_log.specs.declared.command.Command.TheVariants.{Append, Put, Get, Tx, Read as ReadCommand, Last}
 use Rattle.abstract_log.specs.declared.event.Event.TheVariants.{Receive}
-use Rattle.abstract_log.specs.declared.script.Outcome.TheVariants.{Absent}
+use Rattle.abstract_log.specs.declared.script.Outcome.TheVariants.{Absent, Sent}
 use Rattle.abstract_log.specs.Commands.{is_write}
 use Rattle.log_laws.proofs.Places.{All-at_place}
 use Rattle.flstore_rounds.specs.Heads.{Pair}
 use Rattle.awareness_table.specs.Awareness.{Awareness}
 use Rattle.maintainer.specs.Maintainers.{MaintainerState, plain}
 use Rattle.record_codec.specs.declared.message.Message.{Message}
+use Rattle.record_codec.specs.Wire.{SpellsMessage}
 use Rattle.sender_receiver.specs.Sending.{SenderState}
 use Rattle.stage_world.specs.Stages.{Datacentre, Session, batcher_at}
-use Rattle.stage_world.specs.Turns.{Turned, quiet}
+use Rattle.stage_world.specs.Turns.{Turned, quiet, where_there}
 use Rattle.stage_world.specs.ClientTurns.{client_of, client_turn}
-use Rattle.stage_world.specs.MoreTurns.{names_of, receive_turn, received_outcome}
+use Rattle.stage_world.specs.MoreTurns.{message_of, names_of, receive_turn, received_outcome}
 use Rattle.datacentre.specs.declared.parts.Parts.{Parts}
 use Rattle.datacentre.specs.declared.done.TurnDone.{TurnDone}
 use Rattle.datacentre.specs.Clients.{MayRead, MayWrite, batchers_written, begin_events, next_command, position_in, read_by, read_outcome, reply_events, session_read, session_written, top_in, write_events, write_outcome, writes}
 use Rattle.datacentre.specs.Lent.{maintainers_seen}
-use Rattle.datacentre.specs.Seen.{IsWhole, seen}
-use Rattle.datacentre.specs.Turning.{IsBuiltCommand, IsTurned, MayTurn}
+use Rattle.datacentre.specs.Seen.{IsWhole, StandsForALog, seen}
+use Rattle.datacentre.specs.Told.{MayLook, MayTell, told_by}
+use Rattle.datacentre.specs.Turning.{IsBuiltCommand, IsPacketOf, IsTurned, MayTurn, send_told}
 use Rattle.datacentre.proofs.AckLemmas.{position_none, position_some}
 use Rattle.datacentre.proofs.ClientIs.{read_is_turn, write_is_turn}
 use Rattle.datacentre.proofs.ClientMay.{may_read, may_write}
+use Rattle.datacentre.proofs.ToldLemmas.{AreLent, may_look, may_tell, told_is, whole_is_lent}
 
 abbrev has_number : ℕ → Session → Bool
 has_number s x = eqb x.number s
@@ -42,21 +45,21 @@ has_number s x = eqb x.number s
 
 found_first : {X : Type 0} (test : X → Bool) (xs : List X) (d : X) → position_or_len test xs < length xs → find test xs ≡ Some (get_or xs (position_or_len test xs) d)
 found_first test [] d within = absurd (omega (arith, within))
-found_first test (x ∷ xs) d within = at (test x) within
+found_first test (x ∷ xs) d within = at (test x) (λ inside. found_first test xs d inside) within
   where
-    at : (b : Bool) → cond (not b) (1 + position_or_len test xs) 0 < length (x ∷ xs) → cond b (Some x) (find test xs) ≡ Some (get_or (x ∷ xs) (cond (not b) (1 + position_or_len test xs) 0) d)
-    at true inside = refl
-    at false inside =
+    at : (b : Bool) → (position_or_len test xs < length xs → find test xs ≡ Some (get_or xs (position_or_len test xs) d)) → cond (not b) (1 + position_or_len test xs) 0 < length (x ∷ xs) → cond b (Some x) (find test xs) ≡ Some (get_or (x ∷ xs) (cond (not b) (1 + position_or_len test xs) 0) d)
+    at true later inside = refl
+    at false later inside =
         let next : 1 + position_or_len test xs ≡ suc (position_or_len test xs) = omega arith in
-        found_first test xs d (omega (arith, inside)) ∙ ap (λ k. Some (get_or (x ∷ xs) k d)) (sym next)
+        later (omega (arith, inside)) ∙ ap (λ k. Some (get_or (x ∷ xs) k d)) (sym next)
 
 none_found : {X : Type 0} (test : X → Bool) (xs : List X) → length xs ≤ position_or_len test xs → find test xs ≡ None
 none_found test [] past = refl
-none_found test (x ∷ xs) past = at (test x) past
+none_found test (x ∷ xs) past = at (test x) (λ out. none_found test xs out) past
   where
-    at : (b : Bool) → length (x ∷ xs) ≤ cond (not b) (1 + position_or_len test xs) 0 → cond b (Some x) (find test xs) ≡ None
-    at true out = absurd (omega (arith, out))
-    at false out = none_found test xs (omega (arith, out))
+    at : (b : Bool) → (length xs ≤ position_or_len test xs → find test xs ≡ None) → length (x ∷ xs) ≤ cond (not b) (1 + position_or_len test xs) 0 → cond b (Some x) (find test xs) ≡ None
+    at true later out = absurd (omega (arith, out))
+    at false later out = later (omega (arith, out))
 
 -- a session that lives here
 
@@ -86,7 +89,7 @@ module _ (p : Parts) (s i : ℕ) (x : Session) (may : MayTurn p) (found : Some i
   write_may is_write = subst (λ n. MayWrite n x p.batchers) number (may_write may.log.world p.dc z may.log.lawful may.log.stands x has is_write)
 
   reads : All (λ (y : Session). All IsBuiltCommand y.commands) p.sessions → writes x ≡ false → IsSome (read_by x)
-  reads built no = by_command (next_command x) refl no
+  reads built other = by_command (next_command x) refl other
     where
       here : All IsBuiltCommand x.commands
       here = subst (λ (y : Session). All IsBuiltCommand y.commands) (sym is) (All-get_or (λ (y : Session). All IsBuiltCommand y.commands) p.sessions i x within built)
@@ -104,9 +107,9 @@ module _ (p : Parts) (s i : ℕ) (x : Session) (may : MayTurn p) (found : Some i
       by_command (Some c) same none = by_kind c (All-at_place IsBuiltCommand x.commands x.standing.answered c here same) none
 
   pub read_may : All (λ (y : Session). All IsBuiltCommand y.commands) p.sessions → writes x ≡ false → MayRead s p.first_maintainers x p.maintainers p.vectors
-  read_may built no =
+  read_may built other =
       subst (λ n. MayRead n p.first_maintainers x p.maintainers p.vectors) number
-      (may_read may.log.world p.dc z may.log.lawful may.log.stands x has p.maintainers (reads built no) refl)
+      (may_read may.log.world p.dc z may.log.lawful may.log.stands x has p.maintainers (reads built other) refl)
 
   pub write_is : (x' : Session) (bs : List (List Item)) (done : TurnDone) → writes x ≡ true → x' ≡ session_written x → bs ≡ batchers_written x p.batchers
       → done.outcome ≡ write_outcome x → done.events ≡ write_events x
@@ -126,10 +129,10 @@ module _ (p : Parts) (s i : ℕ) (x : Session) (may : MayTurn p) (found : Some i
       → done.outcome ≡ read_outcome (top_in p.vectors p.first_maintainers s) x
       → done.events ≡ begin_events x ++ reply_events p.dc p.maintainers (top_in p.vectors p.first_maintainers s) x
       → IsTurned p (record p { sessions = set p.sessions i x'; maintainers = ms; vectors = vs }) done (client_turn p.dc z s)
-  read_is x' ms vs done built no new maintainers vectors outcome events =
+  read_is x' ms vs done built other new maintainers vectors outcome events =
       let top : ℕ → ℕ = top_in p.vectors p.first_maintainers in
       subst (IsTurned p (record p { sessions = set p.sessions i x'; maintainers = ms; vectors = vs }) done)
-      (sym (turn_of_it ∙ read_is_turn p.dc z i x may.log.stands.ordered within (sym is) p.maintainers refl (reads built no))) (record {
+      (sym (turn_of_it ∙ read_is_turn p.dc z i x may.log.stands.ordered within (sym is) p.maintainers refl (reads built other))) (record {
         stages =
             ap₂ (λ ns ws. record z { sessions = set p.sessions i x'; maintainers = maintainers_seen ns; vectors = ws }) maintainers vectors
             ∙ ap (λ y. record z { sessions = set p.sessions i y }) (new ∙ ap (λ n. session_read p.maintainers (top n) x) (sym number));
@@ -151,10 +154,48 @@ nobody_is p s done may none same =
       events = ap (λ (t : TurnDone). t.events) same;
     })
 
--- a packet is received
+-- a sender makes its packet
 
-pub receive_some : (p : Parts) → MayTurn p → 1 ≤ length p.batchers
-receive_some p may = may.log.stands.members.ranges.batchers.0
+all_lent : (p : Parts) (k : ℕ) → AreLent k (seen p) p.maintainers
+all_lent p k = whole_is_lent k (seen p) p.maintainers refl
+
+pub look_may : (p : Parts) (k to n : ℕ) → StandsForALog p.dc (seen p) → to < length p.table.table → n ≡ length p.senders → MayLook p.dc to n p.maintainers p.table.table
+look_may p k to n log there many =
+    subst (λ s. MayLook p.dc to s p.maintainers p.table.table) (sym many)
+    (may_look log.world p.dc to k (seen p) p.maintainers log.stands (omega (arith, there, log.stands.aware.square.rows)) (all_lent p k))
+
+pub told_all : (p : Parts) (k to n : ℕ) → n ≡ length p.senders → told_by p.dc to k n p.maintainers p.table.table ≡ message_of p.dc (seen p) k to
+told_all p k to n many = ap (λ s. told_by p.dc to k s p.maintainers p.table.table) many ∙ told_is p.dc to k (seen p) p.maintainers (all_lent p k)
+
+module _ (p : Parts) (k to n : ℕ) (x : SenderState) (may : MayTurn p) (within : k < length p.senders) (many : n ≡ length p.senders) (is : x ≡ get_or p.senders k x) where
+  own : x.dc ≡ p.dc
+  own = subst (λ (y : SenderState). y.dc ≡ p.dc) (sym is) (may.whole.senders k x within)
+
+  pub send_may : to < length p.table.table → MayTell x.dc to k n p.maintainers p.table.table
+  send_may there =
+      subst (λ d. MayTell d to k n p.maintainers p.table.table) (sym own)
+      (subst (λ s. MayTell p.dc to k s p.maintainers p.table.table) (sym many)
+      (may_tell may.log.world p.dc to k (seen p) p.maintainers may.log.lawful may.log.stands (omega (arith, there, may.log.stands.aware.square.rows)) (all_lent p k)))
+
+  told_here : told_by x.dc to k n p.maintainers p.table.table ≡ message_of p.dc (seen p) k to
+  told_here = ap (λ d. told_by d to k n p.maintainers p.table.table) own ∙ told_all p k to n many
+
+  pub send_is : (x' : SenderState) (done : TurnDone) → x' ≡ x → done.outcome ≡ Sent (names_of (told_by x.dc to k n p.maintainers p.table.table).records) 0 false → done.events ≡ []
+      → IsTurned p (record p { senders = set p.senders k x' }) done (where_there (ltb k (length p.senders)) (seen p) (send_told p.dc (seen p) k to))
+  send_is x' done same outcome events =
+      let left : set p.senders k x' ≡ p.senders = ap (set p.senders k) (same ∙ is) ∙ set-get_or p.senders k x in
+      subst (λ b. IsTurned p (record p { senders = set p.senders k x' }) done (where_there b (seen p) (send_told p.dc (seen p) k to))) (sym (lt-ltb k (length p.senders) within)) (record {
+        stages = ap (λ (xs : List SenderState). record (seen p) { senders = length xs }) left;
+        here = refl;
+        whole = record { token = may.whole.token; table = may.whole.table; senders = subst (All (λ (s : SenderState). s.dc ≡ p.dc)) (sym left) may.whole.senders };
+        outcome = outcome ∙ ap (λ (m : Message). Sent (names_of m.records) 0 false) told_here;
+        events = events;
+      })
+
+  pub packet_is : (packet : List ℕ) → SpellsMessage (length p.table.table) packet (told_by x.dc to k n p.maintainers p.table.table) → IsPacketOf p.dc (seen p) k to (Some packet)
+  packet_is packet spelled = (within, subst (SpellsMessage (length p.table.table) packet) told_here spelled)
+
+-- a packet is received
 
 pub receive_is : (p : Parts) (r : ℕ) (m : Message) (bs : List (List Item)) (table : Awareness) (done : TurnDone) → MayTurn p
     → table ≡ record p.table { table = greater_rows p.table.table m.table }

@@ -1,7 +1,8 @@
 -- Turns of a whole datacentre: what the lent stages leave is what the stage world's turn leaves.
-use Rattle.std.proofs.Common.{◌≡◌, ◌≢◌, ℕ, suc, ◌+◌, ◌<◌, ◌≤◌, Bool, true, false, cond, eqb, ltb, ◌&&◌, List, [], ◌∷◌, ◌++◌, length, map, set, get_or, refl, ap, ap₂, sym, ◌∙◌, subst, inl, inr, arith, Option, Some, None}
+use Rattle.std.proofs.Common.{Result, Ok, Err, IfOk, OnOk, ◌≡◌, ◌≢◌, ℕ, suc, ◌+◌, ◌<◌, ◌≤◌, Bool, true, false, cond, eqb, ltb, ◌&&◌, List, [], ◌∷◌, ◌++◌, length, map, set, get_or, refl, ap, ap₂, sym, ◌∙◌, subst, inl, inr, arith, Option, Some, None}
 use Rattle.std.specs.List.{All, fold}
 use Rattle.std.specs.Option.{ForSome}
+
 use Rattle.std.proofs.lemmas.Bool.{cases_eq, lt-ltb, le-ltb}
 use Rattle.std.proofs.lemmas.List.{get_or-map, get_or-set_other, get_or_default, length-map, length-set, map-set, set-get_or}
 use Rattle.std.proofs.lemmas.Grind.{get_or-set_at}
@@ -35,6 +36,11 @@ use Rattle.datacentre.proofs.RingLemmas.{token_is}
 use Rattle.datacentre.proofs.StampStands.{queue_may_stamp, queue_seen, token_may_move}
 use Rattle.datacentre.proofs.StampTurns.{stamp_is_turn, token_is_turn}
 use Rattle.datacentre.proofs.TellingLemmas.{gossip_is_turn, may_gossip}
+
+-- four clauses of one result
+pub if_four : {T E : Type 0} (r : Result T E) (A B : Type 0) (P Q R : T → Type 0) → OnOk r A → OnOk r B → IfOk r P → IfOk r Q → ((x : T) → A → B → P x → Q x → R x) → IfOk r R
+if_four (Ok x) A B P Q R a b p q f = f x a b p q
+if_four (Err e) A B P Q R a b p q f = tt
 
 -- the element that is lent
 lent_is : {X : Type 0} (xs : List X) (i : ℕ) (x d : X) → x ≡ get_or xs i x → i < length xs → x ≡ get_or xs i d

@@ -1,5 +1,5 @@
 -- What a turn of a datacentre asks, what it leaves, and what it answers.
-use Rattle.std.specs.Prelude.{◌≡◌, ⊤, ⊥, ℕ, ◌<◌, ◌≤◌, false, List, length, Option, Some, None, All, Result, MatchOption, MatchResult}
+use Rattle.std.specs.Prelude.{◌≡◌, ⊤, ℕ, ◌<◌, ◌≤◌, false, List, length, Option, Some, None, All, Result, MatchOption, MatchResult}
 use Rattle.abstract_log.specs.declared.command.Command.{Command}
 use Rattle.abstract_log.specs.declared.command.Command.TheVariants.{Append, Put, Get, Tx, Read, Last}
 use Rattle.abstract_log.specs.declared.script.Step.{Step}
@@ -34,12 +34,12 @@ pub record TookTurn (d : ℕ) (turned : Turned) (done : TurnDone) (new : Datacen
   pub events : done.events ≡ turned.events
 
 -- It failed: nothing is known of its stages from then on.
-abbrev pub HasFailed : ℕ → DatacentreState → Type 0
-HasFailed d new = new ≡ record { dc = d; stages = None }
+abbrev pub HasFailed : DatacentreState → Type 0
+HasFailed new = new.stages ≡ None
 
 -- It took the turn, or memory was wanted and it has failed.
 abbrev pub TakesTurn : {E : Type 0} → ℕ → Turned → Result TurnDone E → DatacentreState → Type 0
-TakesTurn d turned result new = MatchResult result (λ done. TookTurn d turned done new) (λ _. HasFailed d new)
+TakesTurn d turned result new = MatchResult result (λ done. TookTurn d turned done new) (λ _. HasFailed new)
 
 -- what sender k answers, where its message to e is yet to go into the link
 abbrev pub send_told : ℕ → Datacentre → ℕ → ℕ → Turned
@@ -53,7 +53,7 @@ IsPacketOf d z k e packet = MatchOption packet (z.senders ≤ k) (λ bytes. (k <
 abbrev pub Sends : {E : Type 0} → ℕ → Datacentre → ℕ → ℕ → Result (TurnDone × Option (List ℕ)) E → DatacentreState → Type 0
 Sends d z k e result new = MatchResult result
     (λ sent. TookTurn d (turn_of d z (Send d k e)) sent.0 new × IsPacketOf d z k e sent.1)
-    (λ _. HasFailed d new)
+    (λ _. HasFailed new)
 
 -- an append, a put or a read
 abbrev pub IsBuiltCommand : Command → Type 0

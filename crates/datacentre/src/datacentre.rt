@@ -15,7 +15,7 @@ ghost use Rattle.stage_world.specs.MoreTurns.{message_of, receive_turn};
 use crate::opening::{
     new_batchers, new_filters, new_maintainers, new_ring, new_senders, new_sessions, new_vectors,
 };
-use crate::TurnDone;
+use crate::{Session, TurnDone};
 use crate::parts::Parts;
 use crate::ring::holder;
 use crate::turns;
@@ -189,11 +189,14 @@ impl Datacentre {
     pub fn unanswered(&self) -> bool
         ensures { ForSome self.now.stages (λ z. result ≡ list_any is_unanswered z.sessions) }
     {
-        self.parts
-            .sessions
-            .iter()
-            .any(|session| session.unanswered())
+        any_unanswered(self.parts.sessions.as_slice())
     }
+}
+
+fn any_unanswered(sessions: &[Session]) -> bool
+    ensures { result ≡ list_any is_unanswered sessions.now }
+{
+    sessions.iter().any(|session| session.unanswered())
 }
 
 // What stands for the sizes of a datacentre that has failed.
