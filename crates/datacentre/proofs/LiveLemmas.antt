@@ -1,5 +1,5 @@
 -- A datacentre that has not failed has its parts to be seen.
-use Rattle.std.proofs.Common.{Result, Ok, Err, IfOk, OnOk, ◌≡◌, ◌≢◌, ◌↔◌, ℕ, ◌+◌, ◌<◌, ◌≤◌, Bool, true, false, cond, List, [], ◌∷◌, length, refl, ap, ap₂, sym, ◌∙◌, subst, arith, Option, Some, None}
+use Rattle.std.proofs.Common.{Result, Ok, Err, IfOk, ◌≡◌, ◌≢◌, ◌↔◌, ℕ, ◌+◌, ◌<◌, ◌≤◌, Bool, true, false, cond, List, [], ◌∷◌, length, refl, ap, ap₂, sym, ◌∙◌, subst, arith, Option, Some, None}
 use Rattle.std.specs.Bool.{IsTrue}
 use Rattle.std.specs.Option.{ForSome}
 use Rattle.std.specs.Result.{is_err}
@@ -7,7 +7,6 @@ use Rattle.std.proofs.lemmas.Bool.{false≢true}
 use Rattle.std.proofs.lemmas.List.{length-map}
 use Rattle.std.proofs.lemmas.Option.{same_Some}
 use Rattle.causal_deps.specs.declared.record.Record.{Record}
-use Rattle.abstract_log.specs.declared.script.Sizes.{Sizes}
 use Rattle.abstract_log.specs.declared.script.Step.{Step}
 use Rattle.abstract_log.specs.declared.script.Step.TheVariants.{Send}
 use Rattle.flstore_rounds.specs.Heads.{Pair}
@@ -74,11 +73,14 @@ whole_after (Err e) p new b turned is h live = absurd (false≢true (sym live �
 sends : {E : Type 0} (result : Result (TurnDone × Option (List ℕ)) E) (p new : Parts) (d : ℕ) (b : Bool) (k e : ℕ) → p.dc ≡ d → b ≡ is_err result
     → IfOk result (λ sent. IsTurned p new sent.0 (turn_of d (seen p) (Send d k e))) → IfOk result (λ sent. IsPacketOf d (seen p) k e sent.1)
     → Sends d (seen p) k e result (state_of b new)
-sends (Ok sent) p new d b k e here is h packet = (record {
-  state = ap (λ c. state_of c new) is ∙ (λ i. record { dc = (h.here ∙ here) i; stages = Some (h.stages i) });
-  outcome = h.outcome;
-  events = h.events;
-}, packet)
+sends (Ok sent) p new d b k e here is h packet = (
+  record {
+    state = ap (λ c. state_of c new) is ∙ (λ i. record { dc = (h.here ∙ here) i; stages = Some (h.stages i) });
+    outcome = h.outcome;
+    events = h.events;
+  },
+  packet,
+)
 sends (Err e) p new d b k to here is h packet = ap (λ c. cond c None (Some (seen new))) is
 
 module _ (failed : Bool) (p : Parts) (s : DatacentreState) (view : state_of failed p ≡ s) where

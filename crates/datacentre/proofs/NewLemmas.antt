@@ -1,18 +1,15 @@
 -- A datacentre at the beginning.
-use Rattle.std.proofs.Common.{◌≡◌, ◌≢◌, ℕ, zero, suc, ◌+◌, ◌<◌, ◌≤◌, List, [], ◌∷◌, ◌++◌, length, map, set, replicate, refl, ap, ap₂, sym, ◌∙◌, subst, arith, Option, Some, None}
-use Rattle.std.specs.List.{All}
+use Rattle.std.proofs.Common.{◌≡◌, ℕ, zero, suc, ◌+◌, ◌≤◌, List, [], ◌∷◌, ◌++◌, length, map, set, replicate, refl, ap, ap₂, sym, ◌∙◌, subst, arith, Some, None}
 use Rattle.std.proofs.Math.Seq.{map-set_same}
-use Rattle.std.proofs.lemmas.List.{get_or-set_same, get_or-set_other, length-set, map_push, length-replicate}
-use Rattle.std.proofs.lemmas.List.Elements.{All-nil, All-push}
+use Rattle.std.proofs.lemmas.List.{get_or-set_same, get_or-set_other, length-set, map_push}
 use Rattle.flstore_rounds.specs.Epochs.{EpochList}
-use Rattle.flstore_rounds.specs.Heads.{Pair, blank}
-use Rattle.maintainer.specs.Maintainers.{empty}
+use Rattle.flstore_rounds.specs.Heads.{Pair}
 use Rattle.token_queue.specs.Queues.{QueueState, TokenState, tokenless}
 use Rattle.stage_world.specs.Stages.{Indexer, no_queue, queue_at}
 use Rattle.stage_world.specs.MoreTurns.{new_queue}
 use Rattle.stage_world.specs.Opening.{numbered}
 use Rattle.stage_world.proofs.OpeningLemmas.{length-numbered, get_or-numbered}
-use Rattle.datacentre.specs.Lent.{queues_seen, maintainers_seen, HaveToken}
+use Rattle.datacentre.specs.Lent.{queues_seen, HaveToken}
 use Rattle.datacentre.specs.Seen.{indexers_from}
 
 -- what g leaves as it is

@@ -1,9 +1,9 @@
 -- Turns of a session, and those that use a link, at a whole datacentre.
 use Rattle.std.proofs.Common.{◌≡◌, ℕ, suc, ◌+◌, ◌%◌, ◌<◌, ◌≤◌, Bool, true, false, cond, eqb, ltb, not, List, [], ◌∷◌, ◌++◌, length, map, set, get_or, refl, ap, ap₂, sym, ◌∙◌, subst, arith, Option, Some, None, IsSome}
-use Rattle.std.specs.List.{All, Contains, find, position, position_or_len, slice_get}
+use Rattle.std.specs.List.{All, Contains, find, position, position_or_len}
 use Rattle.std.specs.Option.{option_and_then, option_map_or}
-use Rattle.std.proofs.lemmas.Bool.{eqb-true, lt-ltb, le-ltb, false≢true}
-use Rattle.std.proofs.lemmas.List.{get_or_default, length-map, set-get_or}
+use Rattle.std.proofs.lemmas.Bool.{eqb-true, lt-ltb}
+use Rattle.std.proofs.lemmas.List.{set-get_or}
 use Rattle.std.proofs.lemmas.List.Elements.{All-get_or, Contains-get_or}
 use Rattle.std.proofs.lemmas.List.Sums.{passes_at_first}
 use Rattle.causal_deps.specs.declared.record.Record.{Record}
@@ -18,19 +18,19 @@ use Rattle.abstract_log.specs.Commands.{is_write}
 use Rattle.log_laws.proofs.Places.{All-at_place}
 use Rattle.flstore_rounds.specs.Heads.{Pair}
 use Rattle.awareness_table.specs.Awareness.{Awareness}
-use Rattle.maintainer.specs.Maintainers.{MaintainerState, plain}
+use Rattle.maintainer.specs.Maintainers.{MaintainerState}
 use Rattle.record_codec.specs.declared.message.Message.{Message}
 use Rattle.record_codec.specs.Wire.{SpellsMessage}
 use Rattle.sender_receiver.specs.Sending.{SenderState}
 use Rattle.stage_world.specs.Stages.{Datacentre, Session, batcher_at}
-use Rattle.stage_world.specs.Turns.{Turned, quiet, where_there}
+use Rattle.stage_world.specs.Turns.{quiet, where_there}
 use Rattle.stage_world.specs.ClientTurns.{client_of, client_turn}
 use Rattle.stage_world.specs.MoreTurns.{message_of, names_of, receive_turn, received_outcome}
 use Rattle.datacentre.specs.declared.parts.Parts.{Parts}
 use Rattle.datacentre.specs.declared.done.TurnDone.{TurnDone}
 use Rattle.datacentre.specs.Clients.{MayRead, MayWrite, batchers_written, begin_events, next_command, position_in, read_by, read_outcome, reply_events, session_read, session_written, top_in, write_events, write_outcome, writes}
 use Rattle.datacentre.specs.Lent.{maintainers_seen}
-use Rattle.datacentre.specs.Seen.{IsWhole, StandsForALog, seen}
+use Rattle.datacentre.specs.Seen.{StandsForALog, seen}
 use Rattle.datacentre.specs.Told.{MayLook, MayTell, told_by}
 use Rattle.datacentre.specs.Turning.{IsBuiltCommand, IsPacketOf, IsTurned, MayTurn, send_told}
 use Rattle.datacentre.proofs.AckLemmas.{position_none, position_some}

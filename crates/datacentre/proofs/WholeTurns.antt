@@ -1,15 +1,13 @@
 -- Turns of a whole datacentre: what the lent stages leave is what the stage world's turn leaves.
-use Rattle.std.proofs.Common.{Result, Ok, Err, IfOk, OnOk, ◌≡◌, ◌≢◌, ℕ, suc, ◌+◌, ◌<◌, ◌≤◌, Bool, true, false, cond, eqb, ltb, ◌&&◌, List, [], ◌∷◌, ◌++◌, length, map, set, get_or, refl, ap, ap₂, sym, ◌∙◌, subst, inl, inr, arith, Option, Some, None}
-use Rattle.std.specs.List.{All, fold}
+use Rattle.std.proofs.Common.{Result, Ok, Err, IfOk, OnOk, ◌≡◌, ℕ, ◌<◌, ◌≤◌, Bool, true, false, ltb, ◌&&◌, List, [], ◌++◌, length, map, set, get_or, refl, ap, ap₂, sym, ◌∙◌, subst, inl, inr, arith}
+use Rattle.std.specs.List.{fold}
 use Rattle.std.specs.Option.{ForSome}
-
 use Rattle.std.proofs.lemmas.Bool.{cases_eq, lt-ltb, le-ltb}
 use Rattle.std.proofs.lemmas.List.{get_or-map, get_or-set_other, get_or_default, length-map, length-set, map-set, set-get_or}
 use Rattle.std.proofs.lemmas.Grind.{get_or-set_at}
 use Rattle.causal_deps.specs.declared.record.Record.{Record}
 use Rattle.causal_deps.specs.declared.record.Item.{Item}
 use Rattle.causal_deps.specs.Counts.{raised_row, row_of}
-use Rattle.abstract_log.specs.declared.script.Outcome.{Outcome}
 use Rattle.abstract_log.specs.declared.script.Outcome.TheVariants.{Absent, Flushed, Head, Learnt, PassedOn, Placed}
 use Rattle.flstore_rounds.specs.Heads.{Pair, blank, head}
 use Rattle.awareness_table.specs.Awareness.{Awareness}
@@ -17,7 +15,7 @@ use Rattle.maintainer.specs.Maintainers.{MaintainerState, learned, moved_in, pla
 use Rattle.token_queue.specs.Queues.{QueueState, TokenState, outbox_for, tokenless, without_outbox}
 use Rattle.toid_filter.specs.Filters.{FilterState, filter_at}
 use Rattle.stage_world.specs.Stages.{Datacentre, Session, no_epochs, no_maintainer, no_queue, batcher_at, maintainer_at, queue_at, slot_of, vector_at}
-use Rattle.stage_world.specs.Turns.{Turned, quiet, where_there, unless_empty, taken_by, flush_items, flush_turn, gossip_turn, pass_turn, place_turn, stamp_turn, token_turn}
+use Rattle.stage_world.specs.Turns.{Turned, where_there, unless_empty, taken_by, flush_items, flush_turn, gossip_turn, pass_turn, place_turn, stamp_turn, token_turn}
 use Rattle.stage_world.specs.MoreTurns.{learn_turn}
 use Rattle.datacentre.specs.declared.parts.Parts.{Parts}
 use Rattle.datacentre.specs.declared.done.TurnDone.{TurnDone}
@@ -34,7 +32,7 @@ use Rattle.datacentre.proofs.LearningLemmas.{learn_is_turn, may_learn}
 use Rattle.datacentre.proofs.PlacingLemmas.{may_place_from, place_is_turn}
 use Rattle.datacentre.proofs.RingLemmas.{token_is}
 use Rattle.datacentre.proofs.StampStands.{queue_may_stamp, queue_seen, token_may_move}
-use Rattle.datacentre.proofs.StampTurns.{stamp_is_turn, token_is_turn}
+use Rattle.datacentre.proofs.StampTurns.{stamp_is_turn}
 use Rattle.datacentre.proofs.TellingLemmas.{gossip_is_turn, may_gossip}
 
 -- four clauses of one result

@@ -15,10 +15,9 @@ ghost use Rattle.stage_world.specs.MoreTurns.{message_of, receive_turn};
 use crate::opening::{
     new_batchers, new_filters, new_maintainers, new_ring, new_senders, new_sessions, new_vectors,
 };
-use crate::{Session, TurnDone};
 use crate::parts::Parts;
 use crate::ring::holder;
-use crate::turns;
+use crate::{Session, TurnDone, turns};
 use abstract_log::{Sizes, Step, Workload};
 use awareness_table::Aware;
 use causal_deps::Counts;
@@ -102,12 +101,7 @@ impl Datacentre {
     }
 
     /// A packet that was in the link from a datacentre comes to receiver r.
-    pub fn receive(
-        &mut self,
-        from: DcId,
-        r: u32,
-        packet: &Packet,
-    ) -> Result<TurnDone, NoMemory>
+    pub fn receive(&mut self, from: DcId, r: u32, packet: &Packet) -> Result<TurnDone, NoMemory>
         requires log { ForSome self.old.stages (StandsForALog self.old.dc) }
         requires told { ForSome self.old.stages (λ z. IsToldBy (length z.table) from packet.now) }
         ensures turn { ForSome self.old.stages (λ z. (m : Message) → SpellsMessage (length z.table) packet.now m → TakesTurn self.old.dc (receive_turn self.old.dc z r m) result self.new) }

@@ -19,8 +19,8 @@ use head_gossip::Vector;
 use maintainer::Maintainer;
 use sender_receiver::Sender;
 use std::alloc::Global;
-use token_queue::{Queue, Token};
 use toid_filter::{Champions, Filter};
+use token_queue::{Queue, Token};
 
 /// So many batchers.
 pub(crate) fn new_batchers(alloc: Global, n: u32) -> Result<Seq<Batcher>, NoMemory>

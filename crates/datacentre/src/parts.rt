@@ -6,8 +6,8 @@ use cz_base::{DcId, Lid, Seq};
 use head_gossip::Vector;
 use maintainer::Maintainer;
 use sender_receiver::Sender;
-use token_queue::Queue;
 use toid_filter::{Champions, Filter};
+use token_queue::Queue;
 
 /// The stages of one datacentre, each kind by number, with its sessions and its table. One of the queues has the token.
 #[derive(Drop)]

@@ -13,10 +13,9 @@ ghost use Rattle.datacentre.specs.Clients.{writes};
 ghost use Rattle.datacentre.specs.Told.{IsToldBy};
 ghost use Rattle.datacentre.specs.Turning.{IsBuilt, IsBuiltCommand, IsPacketOf, IsTurned, MayTurn, send_told};
 
-use crate::TurnDone;
 use crate::parts::Parts;
 use crate::stamping::place_of;
-use crate::turns;
+use crate::{TurnDone, turns};
 use abstract_log::{Outcome, Step};
 use cz_base::{DcId, NoMemory, Seq};
 use lossy_links::Packet;
@@ -169,12 +168,7 @@ impl Parts {
     }
 
     /// A packet of another datacentre comes to receiver r.
-    pub fn receive(
-        &mut self,
-        from: DcId,
-        r: u32,
-        packet: &Packet,
-    ) -> Result<TurnDone, NoMemory>
+    pub fn receive(&mut self, from: DcId, r: u32, packet: &Packet) -> Result<TurnDone, NoMemory>
         requires may { MayTurn self.old }
         requires told { IsToldBy (length self.old.table.table) from packet.now }
         ensures { (m : Message) → SpellsMessage (length self.old.table.table) packet.now m → IfOk result (λ done. IsTurned self.old self.new done (receive_turn self.old.dc (seen self.old) r m)) }

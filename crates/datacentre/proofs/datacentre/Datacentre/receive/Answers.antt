@@ -1,4 +1,3 @@
-use Rattle.std.proofs.Common.{arith}
 use Rattle.datacentre.proofs.LiveLemmas.{live, may_turn, received_it, whole_after}
 use Rattle.datacentre.proofs.datacentre.Datacentre.receive.Goals as goal
 

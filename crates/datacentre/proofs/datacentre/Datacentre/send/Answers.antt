@@ -1,4 +1,3 @@
-use Rattle.std.proofs.Common.{arith}
 use Rattle.datacentre.proofs.LiveLemmas.{live, may_turn, sent_it}
 use Rattle.datacentre.proofs.datacentre.Datacentre.send.Goals as goal
 

@@ -1,4 +1,3 @@
-use Rattle.std.proofs.Common.{arith}
 use Rattle.datacentre.proofs.LiveLemmas.{may_turn, took}
 use Rattle.datacentre.proofs.datacentre.Datacentre.turn.Goals as goal
 

@@ -1,4 +1,3 @@
-use Rattle.std.proofs.Common.{rules}
 use Rattle.std.proofs.Common.{sym, ◌∙◌}
 use Rattle.datacentre.proofs.WholeTurns.{if_four}
 use Rattle.datacentre.proofs.WholeLinks.{nobody_is, read_is, read_may, write_is, write_may}
@@ -11,7 +10,7 @@ pub client_write-requires : goal.client_write-requires
 client_write-requires c = write_may c.args.self.now c.args.s c.in-Some.at _ c.requires.may c.in-Some.ensures c.item_mut.ensures.value (sym (c.writes.ensures _ c.item_mut.ensures.value) ∙ c.if-writes.true)
 
 pub client_read-requires : goal.client_read-requires
-client_read-requires c = read_may c.args.self.now c.args.s c.in-Some.at _ c.requires.may c.in-Some.ensures c.item_mut-2.ensures.value c.requires.built (sym (c.writes.ensures _ c.item_mut-2.ensures.value) ∙ c.if-writes.false)
+client_read-requires c = read_may c.args.self.now c.args.s c.in-Some.at _ c.requires.may c.in-Some.ensures c.item_mut-else-writes.ensures.value c.requires.built (sym (c.writes.ensures _ c.item_mut-else-writes.ensures.value) ∙ c.if-writes.false)
 
 pub returns-then-writes : goal.returns-then-writes
 returns-then-writes c =
@@ -22,6 +21,6 @@ returns-then-writes c =
 pub returns-else-writes : goal.returns-else-writes
 returns-else-writes c =
     if_four c.client_read.result _ _ _ _ _ c.client_read.ensures.session c.client_read.ensures.session c.client_read.ensures.outcome c.client_read.ensures.events
-    (λ done session same outcome events. read_is c.args.self.now c.args.s c.in-Some.at c.item_mut-2.result.now c.requires.may c.in-Some.ensures c.item_mut-2.ensures.value
-    c.client_read.new.session c.client_read.new.maintainers c.client_read.new.vectors done c.requires.built (sym (c.writes.ensures _ c.item_mut-2.ensures.value) ∙ c.if-writes.false)
+    (λ done session same outcome events. read_is c.args.self.now c.args.s c.in-Some.at c.item_mut-else-writes.result.now c.requires.may c.in-Some.ensures c.item_mut-else-writes.ensures.value
+    c.client_read.new.session c.client_read.new.maintainers c.client_read.new.vectors done c.requires.built (sym (c.writes.ensures _ c.item_mut-else-writes.ensures.value) ∙ c.if-writes.false)
     session c.client_read.ensures.maintainers c.client_read.ensures.vectors outcome events)

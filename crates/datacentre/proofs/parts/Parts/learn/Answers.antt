@@ -1,4 +1,3 @@
-use Rattle.std.proofs.Common.{rules}
 use Rattle.datacentre.proofs.WholeTurns.{if_four, learn_is, learn_may}
 use Rattle.datacentre.proofs.parts.Parts.learn.Goals as goal
 

@@ -1,4 +1,3 @@
-use Rattle.std.proofs.Common.{rules}
 use Rattle.datacentre.proofs.WholeTurns.{token_may}
 use Rattle.datacentre.proofs.parts.Parts.token.Goals as goal
 
