@@ -1,3 +1,4 @@
+pub mod NewLemmas
 pub mod StampedItems
 pub mod AckLemmas
 pub mod RingLemmas
@@ -14,5 +15,9 @@ pub mod PlacingLemmas
 pub mod LearningLemmas
 pub mod TellingLemmas
 pub mod StockLemmas
+pub mod WholeTurns
+pub mod WholeLinks
+pub mod OpenedLemmas
+pub mod LiveLemmas
 pub mod NewsLemmas
 pub mod ToldLemmas

@@ -1,4 +1,5 @@
 pub mod Lent
+pub mod Seen
 pub mod Stamping
 pub mod Flushing
 pub mod Clients
@@ -7,3 +8,4 @@ pub mod Telling
 pub mod Learning
 pub mod Told
 pub mod Rising
+pub mod Turning

@@ -7,9 +7,12 @@
 
 mod client;
 mod commands;
+mod datacentre;
 mod done;
 mod flushing;
 mod learning;
+mod opening;
+mod parts;
 mod placing;
 mod receiving;
 mod ring;
@@ -18,8 +21,10 @@ mod sending;
 mod session;
 mod stamping;
 mod stocking;
+mod taking;
 mod telling;
 pub mod turns;
 
+pub use datacentre::Datacentre;
 pub use done::TurnDone;
 pub use session::Session;

@@ -30,8 +30,8 @@ pub fn token(queues: &mut Seq<Queue>) -> Result<TurnDone, NoMemory>
     })
 }
 
-// The place of the queue that has the token.
-fn holder(queues: &Seq<Queue>) -> usize
+/// The place of the queue that has the token.
+pub(crate) fn holder(queues: &Seq<Queue>) -> usize
     requires { HaveToken queues.now (token_seen queues.now) }
     ensures { result ≡ (token_seen queues.now).at }
 {

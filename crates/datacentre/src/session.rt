@@ -1,4 +1,5 @@
 ghost use Rattle.std.specs.Prelude.{◌≡◌, ◌+◌, ◌^◌, ◌<◌, length};
+ghost use Rattle.datacentre.specs.Seen.{is_unanswered};
 ghost use Rattle.datacentre.specs.Stamping.{acked};
 
 use abstract_log::{Command, Standing};
@@ -30,6 +31,13 @@ impl Session {
         ensures { result ≡ self.now.number }
     {
         self.number
+    }
+
+    /// Whether one of its commands is not answered.
+    pub fn unanswered(&self) -> bool
+        ensures { result ≡ is_unanswered self.now }
+    {
+        (self.standing.answered as usize) < self.commands.len()
     }
 
     /// The write that is open got its place: it is answered, and the session knows of its record.

@@ -137,8 +137,8 @@ fn acknowledge(dc: DcId, stamp: &Stamp, sessions: &mut Seq<Session>)
     }
 }
 
-// Where the session with this number stands.
-fn place_of(sessions: &Seq<Session>, number: u32) -> Option<usize>
+/// Where the session with this number stands.
+pub(crate) fn place_of(sessions: &Seq<Session>, number: u32) -> Option<usize>
     ensures { result ≡ position (λ (s : SessionState). s.number == number) sessions.now }
 {
     sessions

@@ -1,0 +1,73 @@
+use Rattle.std.proofs.Common.{refl}
+use Rattle.datacentre.proofs.OpenedLemmas.{new_seen, new_whole}
+use Rattle.datacentre.proofs.datacentre.new_parts.Goals as goal
+
+pub returns-clause-stages : goal.returns-clause-stages
+returns-clause-stages c =
+    new_seen c.args.round c.args.sizes.now c.args.workload.now c.args.dc c.in_ok-epochs.epochs c.in_ok-map.map (record {
+      dc = c.args.dc;
+      first_maintainers = c.args.sizes.now.maintainers;
+      sessions = c.in_ok-new_sessions.field-0;
+      batchers = c.in_ok-new_batchers.field-0;
+      filters = c.in_ok-new_filters.field-0;
+      map = c.map.inside.hosts;
+      queues = c.in_ok-new_ring.field-0;
+      maintainers = c.in_ok-new_maintainers.field-0;
+      vectors = c.in_ok-new_vectors.field-0;
+      indexers = c.in_ok-new_vectors-2.field-0;
+      senders = c.in_ok-new_senders.field-0;
+      receivers = c.args.sizes.now.receivers;
+      table = c.new.result;
+      learnt = 0;
+    }) (record {
+      here = refl;
+      first = refl;
+      sessions = c.in_ok-new_sessions.ensures;
+      batchers = c.in_ok-new_batchers.ensures;
+      filters = c.in_ok-new_filters.ensures;
+      shared = c.map.view_is;
+      queues = c.in_ok-new_ring.ensures.seen;
+      token = c.in_ok-new_ring.ensures.token;
+      maintainers = c.in_ok-new_maintainers.ensures;
+      vectors = c.in_ok-new_vectors.ensures;
+      indexers = c.in_ok-new_vectors-2.ensures;
+      senders = c.in_ok-new_senders.ensures;
+      receivers = refl;
+      table = c.new.ensures;
+      learnt = refl;
+    }) c.in_ok-epochs.ensures c.in_ok-map.ensures
+
+pub returns-clause-whole : goal.returns-clause-whole
+returns-clause-whole c =
+    new_whole c.args.round c.args.sizes.now c.args.workload.now c.args.dc c.in_ok-epochs.epochs c.in_ok-map.map (record {
+      dc = c.args.dc;
+      first_maintainers = c.args.sizes.now.maintainers;
+      sessions = c.in_ok-new_sessions.field-0;
+      batchers = c.in_ok-new_batchers.field-0;
+      filters = c.in_ok-new_filters.field-0;
+      map = c.map.inside.hosts;
+      queues = c.in_ok-new_ring.field-0;
+      maintainers = c.in_ok-new_maintainers.field-0;
+      vectors = c.in_ok-new_vectors.field-0;
+      indexers = c.in_ok-new_vectors-2.field-0;
+      senders = c.in_ok-new_senders.field-0;
+      receivers = c.args.sizes.now.receivers;
+      table = c.new.result;
+      learnt = 0;
+    }) (record {
+      here = refl;
+      first = refl;
+      sessions = c.in_ok-new_sessions.ensures;
+      batchers = c.in_ok-new_batchers.ensures;
+      filters = c.in_ok-new_filters.ensures;
+      shared = c.map.view_is;
+      queues = c.in_ok-new_ring.ensures.seen;
+      token = c.in_ok-new_ring.ensures.token;
+      maintainers = c.in_ok-new_maintainers.ensures;
+      vectors = c.in_ok-new_vectors.ensures;
+      indexers = c.in_ok-new_vectors-2.ensures;
+      senders = c.in_ok-new_senders.ensures;
+      receivers = refl;
+      table = c.new.ensures;
+      learnt = refl;
+    })

@@ -1,0 +1,26 @@
+use Rattle.std.proofs.Common.{sym, ◌∙◌}
+use Rattle.datacentre.proofs.WholeTurns.{if_four}
+use Rattle.datacentre.proofs.WholeLinks.{nobody_is, read_is, read_may, write_is, write_may}
+use Rattle.datacentre.proofs.parts.Parts.client.Goals as goal
+
+pub returns-in_default : goal.returns-in_default
+returns-in_default c = nobody_is c.args.self.now c.args.s c.absent.result c.requires.may c.in_default.ensures c.absent.ensures
+
+pub client_write-requires : goal.client_write-requires
+client_write-requires c = write_may c.args.self.now c.args.s c.in-Some.at _ c.requires.may c.in-Some.ensures c.item_mut.ensures.value (sym (c.writes.ensures _ c.item_mut.ensures.value) ∙ c.if-writes.true)
+
+pub client_read-requires : goal.client_read-requires
+client_read-requires c = read_may c.args.self.now c.args.s c.in-Some.at _ c.requires.may c.in-Some.ensures c.item_mut-else-writes.ensures.value c.requires.built (sym (c.writes.ensures _ c.item_mut-else-writes.ensures.value) ∙ c.if-writes.false)
+
+pub returns-then-writes : goal.returns-then-writes
+returns-then-writes c =
+    if_four c.client_write.result _ _ _ _ _ c.client_write.ensures.session c.client_write.ensures.batchers c.client_write.ensures.outcome c.client_write.ensures.events
+    (λ done session batchers outcome events. write_is c.args.self.now c.args.s c.in-Some.at c.item_mut.result.now c.requires.may c.in-Some.ensures c.item_mut.ensures.value
+    c.client_write.new.session c.client_write.new.batchers done (sym (c.writes.ensures _ c.item_mut.ensures.value) ∙ c.if-writes.true) session batchers outcome events)
+
+pub returns-else-writes : goal.returns-else-writes
+returns-else-writes c =
+    if_four c.client_read.result _ _ _ _ _ c.client_read.ensures.session c.client_read.ensures.session c.client_read.ensures.outcome c.client_read.ensures.events
+    (λ done session same outcome events. read_is c.args.self.now c.args.s c.in-Some.at c.item_mut-else-writes.result.now c.requires.may c.in-Some.ensures c.item_mut-else-writes.ensures.value
+    c.client_read.new.session c.client_read.new.maintainers c.client_read.new.vectors done c.requires.built (sym (c.writes.ensures _ c.item_mut-else-writes.ensures.value) ∙ c.if-writes.false)
+    session c.client_read.ensures.maintainers c.client_read.ensures.vectors outcome events)

@@ -1,0 +1,90 @@
+-- What a turn of a datacentre asks, what it leaves, and what it answers.
+use Rattle.std.specs.Prelude.{◌≡◌, ⊤, ℕ, ◌<◌, ◌≤◌, false, List, length, Option, Some, None, All, Result, MatchOption, MatchResult}
+use Rattle.abstract_log.specs.declared.command.Command.{Command}
+use Rattle.abstract_log.specs.declared.command.Command.TheVariants.{Append, Put, Get, Tx, Read, Last}
+use Rattle.abstract_log.specs.declared.script.Step.{Step}
+use Rattle.abstract_log.specs.declared.script.Step.TheVariants.{Client, Flush, Pass, Stamp, Token, Place, Gossip, Post, Learn, Send, Deliver, Lose, Copy, Floor, Collect, Announce, Mark, AddMaintainer, AddBatcher, AddQueue, AddSender, AddReceiver}
+use Rattle.stage_world.specs.Stages.{Datacentre}
+use Rattle.abstract_log.specs.declared.script.Outcome.TheVariants.{Sent}
+use Rattle.record_codec.specs.Wire.{SpellsMessage}
+use Rattle.stage_world.specs.Turns.{Turned, quiet}
+use Rattle.stage_world.specs.MoreTurns.{message_of, names_of}
+use Rattle.stage_world.specs.Schedules.{turn_of}
+use Rattle.datacentre.specs.declared.parts.Parts.{Parts}
+use Rattle.datacentre.specs.declared.done.TurnDone.{TurnDone}
+use Rattle.datacentre.specs.Seen.{DatacentreState, IsWhole, StandsForALog, seen}
+
+-- The parts stand for some log.
+pub record MayTurn (p : Parts) : Type 0 where
+  pub whole : IsWhole p
+  pub log : StandsForALog p.dc (seen p)
+
+-- The parts are those that this turn leaves, and its outcome and events are answered.
+pub record IsTurned (old new : Parts) (done : TurnDone) (turned : Turned) : Type 0 where
+  pub stages : seen new ≡ turned.after
+  pub here : new.dc ≡ old.dc
+  pub whole : IsWhole new
+  pub outcome : done.outcome ≡ turned.outcome
+  pub events : done.events ≡ turned.events
+
+-- A datacentre took this turn: its stages, the outcome and the events are the turn's.
+pub record TookTurn (d : ℕ) (turned : Turned) (done : TurnDone) (new : DatacentreState) : Type 0 where
+  pub state : new ≡ record { dc = d; stages = Some turned.after }
+  pub outcome : done.outcome ≡ turned.outcome
+  pub events : done.events ≡ turned.events
+
+-- It failed: nothing is known of its stages from then on.
+abbrev pub HasFailed : DatacentreState → Type 0
+HasFailed new = new.stages ≡ None
+
+-- It took the turn, or memory was wanted and it has failed.
+abbrev pub TakesTurn : {E : Type 0} → ℕ → Turned → Result TurnDone E → DatacentreState → Type 0
+TakesTurn d turned result new = MatchResult result (λ done. TookTurn d turned done new) (λ _. HasFailed new)
+
+-- what sender k answers, where its message to e is yet to go into the link
+abbrev pub send_told : ℕ → Datacentre → ℕ → ℕ → Turned
+send_told d z k e = quiet (Sent (names_of (message_of d z k e).records) 0 false) z
+
+-- The packet is sender k's message to e, and there is one exactly where the sender is there.
+abbrev pub IsPacketOf : ℕ → Datacentre → ℕ → ℕ → Option (List ℕ) → Type 0
+IsPacketOf d z k e packet = MatchOption packet (z.senders ≤ k) (λ bytes. (k < z.senders) × SpellsMessage (length z.table) bytes (message_of d z k e))
+
+-- It took the turn of sender k and made its packet for e, or it has failed.
+abbrev pub Sends : {E : Type 0} → ℕ → Datacentre → ℕ → ℕ → Result (TurnDone × Option (List ℕ)) E → DatacentreState → Type 0
+Sends d z k e result new = MatchResult result
+    (λ sent. TookTurn d (turn_of d z (Send d k e)) sent.0 new × IsPacketOf d z k e sent.1)
+    (λ _. HasFailed new)
+
+-- an append, a put or a read
+abbrev pub IsBuiltCommand : Command → Type 0
+IsBuiltCommand (Append tags body) = ⊤
+IsBuiltCommand (Put key body) = ⊤
+IsBuiltCommand (Get key) = ⊥
+IsBuiltCommand (Tx keys) = ⊥
+IsBuiltCommand (Read lid) = ⊤
+IsBuiltCommand (Last tag n) = ⊥
+
+-- the steps that are taken by `turn` so far
+abbrev pub IsBuilt : Datacentre → Step → Type 0
+IsBuilt z (Client s) = All (λ x. All IsBuiltCommand x.commands) z.sessions
+IsBuilt z (Flush d b) = ⊤
+IsBuilt z (Pass d f q) = ⊤
+IsBuilt z (Stamp d q) = ⊤
+IsBuilt z (Token d) = ⊤
+IsBuilt z (Place d q m) = ⊤
+IsBuilt z (Gossip d m k) = ⊤
+IsBuilt z (Post d m i) = ⊥
+IsBuilt z (Learn d) = ⊤
+IsBuilt z (Send d k e) = ⊥
+IsBuilt z (Deliver d e k r) = ⊥
+IsBuilt z (Lose d e k) = ⊥
+IsBuilt z (Copy d e k) = ⊥
+IsBuilt z (Floor d p) = ⊥
+IsBuilt z (Collect d m) = ⊥
+IsBuilt z (Announce d h t) = ⊥
+IsBuilt z (Mark d) = ⊥
+IsBuilt z (AddMaintainer d p) = ⊥
+IsBuilt z (AddBatcher d) = ⊥
+IsBuilt z (AddQueue d) = ⊥
+IsBuilt z (AddSender d) = ⊥
+IsBuilt z (AddReceiver d) = ⊥

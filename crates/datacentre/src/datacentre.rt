@@ -1,0 +1,241 @@
+ghost use Rattle.std.specs.Prelude.{◌≡◌, ◌≢◌, ◌↔◌, ◌<◌, ◌≤◌, [], length, Some, None, IfOk, IsErr, IsTrue};
+ghost use Rattle.std.specs.List.{list_any};
+ghost use Rattle.std.specs.Option.{ForSome};
+ghost use Rattle.abstract_log.specs.Fits.{FitsLimits, FitsSizes};
+ghost use Rattle.stage_world.specs.Opening.{opening_at};
+ghost use Rattle.stage_world.specs.Stages.{sizes_of};
+ghost use Rattle.stage_world.specs.Schedules.{turn_of};
+ghost use Rattle.datacentre.specs.Seen.{IsWhole, StandsForALog, is_unanswered, seen};
+ghost use Rattle.datacentre.specs.Turning.{IsBuilt, Sends, TakesTurn};
+ghost use Rattle.datacentre.specs.Told.{IsToldBy};
+ghost use Rattle.record_codec.specs.declared.message.Message.{Message};
+ghost use Rattle.record_codec.specs.Wire.{SpellsMessage};
+ghost use Rattle.stage_world.specs.MoreTurns.{message_of, receive_turn};
+
+use crate::opening::{
+    new_batchers, new_filters, new_maintainers, new_ring, new_senders, new_sessions, new_vectors,
+};
+use crate::parts::Parts;
+use crate::ring::holder;
+use crate::{Session, TurnDone, turns};
+use abstract_log::{Sizes, Step, Workload};
+use awareness_table::Aware;
+use causal_deps::Counts;
+use cz_base::{DcId, NoMemory};
+use flstore_rounds::Epochs;
+use lossy_links::Packet;
+use std::alloc::Global;
+use std::marker::Model;
+use toid_filter::Champions;
+
+/// All stages of one datacentre with its sessions and its table. Once a call has answered `NoMemory` it has failed, and so
+/// does each later call that takes memory.
+#[derive(Drop)]
+pub struct Datacentre {
+    parts: Parts,
+    failed: bool,
+}
+
+impl Model for Datacentre {
+    ghost use Rattle.std.specs.Prelude.{◌≡◌, false};
+    ghost use Rattle.datacentre.specs.Seen.{DatacentreState, IsWhole, state_of};
+
+    ghost Value = { DatacentreState };
+
+    ghost view = { λ d. state_of d.failed d.parts };
+
+    ghost invariant = { λ d. d.failed ≡ false → IsWhole d.parts };
+}
+
+impl Datacentre {
+    /// The stages as a script opens them, with the sessions that live there and the token at queue 0.
+    pub fn new(
+        alloc: Global,
+        dc: DcId,
+        round: u32,
+        sizes: &Sizes,
+        workload: &Workload,
+    ) -> Result<Self, NoMemory>
+        requires dc { dc < workload.now.dcs }
+        requires round { (1 ≤ round) × (round ≤ 1024) }
+        requires sizes { FitsSizes sizes.now }
+        requires limits { FitsLimits workload.now }
+        ensures { IfOk result (λ datacentre. datacentre ≡ record { dc = dc; stages = Some (opening_at round sizes.now workload.now dc) }) }
+    {
+        Ok(Datacentre {
+            parts: new_parts(alloc, dc, round, sizes, workload)?,
+            failed: false,
+        })
+    }
+
+    /// The turn of one of the stages, as far as these are built: its events and what it answers. A send is a call of its
+    /// own, and so is what a link brings.
+    pub fn turn(&mut self, step: &Step) -> Result<TurnDone, NoMemory>
+        requires log { ForSome self.old.stages (StandsForALog self.old.dc) }
+        requires built { ForSome self.old.stages (λ z. IsBuilt z step.now) }
+        ensures turn { ForSome self.old.stages (λ z. TakesTurn self.old.dc (turn_of self.old.dc z step.now) result self.new) }
+        ensures failed { self.old.stages ≡ None → IsErr result × (self.new ≡ self.old) }
+    {
+        if self.failed {
+            return Err(NoMemory);
+        }
+        let turned = self.parts.take_turn(step);
+        self.failed = turned.is_err();
+        turned
+    }
+
+    /// The turn of sender k: what it answers, and its packet for a datacentre, where the sender is there. The outcome is that
+    /// of an empty link, into which the packet is still to go.
+    pub fn send(&mut self, k: u32, to: DcId) -> Result<(TurnDone, Option<Packet>), NoMemory>
+        requires log { ForSome self.old.stages (StandsForALog self.old.dc) }
+        requires to { ForSome self.old.stages (λ z. to < length z.table) }
+        ensures turn { ForSome self.old.stages (λ z. Sends self.old.dc z k to result self.new) }
+        ensures failed { self.old.stages ≡ None → IsErr result × (self.new ≡ self.old) }
+    {
+        if self.failed {
+            return Err(NoMemory);
+        }
+        let sent = self.parts.send(k, to);
+        self.failed = sent.is_err();
+        sent
+    }
+
+    /// A packet that was in the link from a datacentre comes to receiver r.
+    pub fn receive(&mut self, from: DcId, r: u32, packet: &Packet) -> Result<TurnDone, NoMemory>
+        requires log { ForSome self.old.stages (StandsForALog self.old.dc) }
+        requires told { ForSome self.old.stages (λ z. IsToldBy (length z.table) from packet.now) }
+        ensures turn { ForSome self.old.stages (λ z. (m : Message) → SpellsMessage (length z.table) packet.now m → TakesTurn self.old.dc (receive_turn self.old.dc z r m) result self.new) }
+        ensures failed { self.old.stages ≡ None → IsErr result × (self.new ≡ self.old) }
+    {
+        if self.failed {
+            return Err(NoMemory);
+        }
+        let received = self.parts.receive(from, r, packet);
+        self.failed = received.is_err();
+        received
+    }
+
+    /// How many members each stage has now.
+    pub fn members(&self) -> Sizes
+        requires { ForSome self.now.stages (StandsForALog self.now.dc) }
+        ensures { ForSome self.now.stages (λ z. result ≡ sizes_of z) }
+    {
+        if self.failed {
+            return NO_SIZES;
+        }
+        let parts = &self.parts;
+        Sizes {
+            batchers: parts.batchers.len() as u32,
+            filters: parts.filters.len() as u32,
+            queues: parts.queues.len() as u32,
+            maintainers: parts.maintainers.len() as u32,
+            indexers: parts.indexers.len() as u32,
+            senders: parts.senders.len() as u32,
+            receivers: parts.receivers,
+        }
+    }
+
+    /// The queue that has the token.
+    pub fn holder(&self) -> u32
+        requires { ForSome self.now.stages (StandsForALog self.now.dc) }
+        ensures { ForSome self.now.stages (λ z. result ≡ z.token.at) }
+    {
+        if self.failed {
+            return 0;
+        }
+        holder(&self.parts.queues) as u32
+    }
+
+    /// The counts of its log, which are the token's.
+    pub fn log_counts(&self) -> Counts
+        ensures { ForSome self.now.stages (λ z. result ≡ z.token.counts) }
+    {
+        if self.failed {
+            return Counts::zero(1);
+        }
+        match self.parts.queues.as_slice()[holder(&self.parts.queues)].token() {
+            Some(token) => token.counts(),
+            None => unreachable!(),
+        }
+    }
+
+    /// Whether the message of sender k to a datacentre would hold a record. No memory is taken.
+    pub fn has_more(&self, k: u32, to: DcId) -> bool
+        requires log { ForSome self.now.stages (StandsForALog self.now.dc) }
+        requires to { ForSome self.now.stages (λ z. to < length z.table) }
+        ensures { ForSome self.now.stages (λ z. IsTrue result ↔ ((message_of self.now.dc z k to).records ≢ [])) }
+    {
+        if self.failed {
+            return false;
+        }
+        let parts = &self.parts;
+        turns::has_more(
+            parts.dc,
+            to,
+            k,
+            parts.senders.len() as u32,
+            &parts.maintainers,
+            &parts.table,
+        )
+    }
+
+    /// Whether one of its sessions has a command that is not answered.
+    pub fn unanswered(&self) -> bool
+        ensures { ForSome self.now.stages (λ z. result ≡ list_any is_unanswered z.sessions) }
+    {
+        any_unanswered(self.parts.sessions.as_slice())
+    }
+}
+
+fn any_unanswered(sessions: &[Session]) -> bool
+    ensures { result ≡ list_any is_unanswered sessions.now }
+{
+    sessions.iter().any(|session| session.unanswered())
+}
+
+// What stands for the sizes of a datacentre that has failed.
+const NO_SIZES: Sizes = Sizes {
+    batchers: 0,
+    filters: 0,
+    queues: 0,
+    maintainers: 0,
+    indexers: 0,
+    senders: 0,
+    receivers: 0,
+};
+
+fn new_parts(
+    alloc: Global,
+    dc: DcId,
+    round: u32,
+    sizes: &Sizes,
+    workload: &Workload,
+) -> Result<Parts, NoMemory>
+    requires dc { dc < workload.now.dcs }
+    requires round { (1 ≤ round) × (round ≤ 1024) }
+    requires sizes { FitsSizes sizes.now }
+    requires limits { FitsLimits workload.now }
+    ensures stages { IfOk result (λ parts. seen parts ≡ opening_at round sizes.now workload.now dc) }
+    ensures dc { IfOk result (λ parts. parts.dc ≡ dc) }
+    ensures whole { IfOk result IsWhole }
+{
+    let dcs = workload.dcs;
+    let epochs = Epochs::first(alloc, round, sizes.maintainers)?;
+    let map = Champions::first(alloc, dcs, sizes.filters)?;
+    Ok(Parts {
+        dc,
+        first_maintainers: sizes.maintainers,
+        sessions: new_sessions(alloc, dcs, dc, &workload.sessions)?,
+        batchers: new_batchers(alloc, sizes.batchers)?,
+        filters: new_filters(alloc, sizes.filters, &map)?,
+        map,
+        queues: new_ring(alloc, dc, dcs, sizes.queues, &epochs)?,
+        maintainers: new_maintainers(alloc, sizes.maintainers, &epochs)?,
+        vectors: new_vectors(alloc, sizes.maintainers, &epochs)?,
+        indexers: new_vectors(alloc, sizes.indexers, &epochs)?,
+        senders: new_senders(alloc, dc, sizes.senders)?,
+        receivers: sizes.receivers,
+        table: Aware::new(dc, dcs),
+        learnt: 0,
+    })
+}

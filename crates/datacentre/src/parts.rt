@@ -1,0 +1,32 @@
+use crate::Session;
+use awareness_table::Aware;
+use batcher::Batcher;
+use causal_deps::Record;
+use cz_base::{DcId, Lid, Seq};
+use head_gossip::Vector;
+use maintainer::Maintainer;
+use sender_receiver::Sender;
+use toid_filter::{Champions, Filter};
+use token_queue::Queue;
+
+/// The stages of one datacentre, each kind by number, with its sessions and its table. One of the queues has the token.
+#[derive(Drop)]
+pub(crate) struct Parts {
+    pub dc: DcId,
+    /// How many maintainers it began with.
+    pub first_maintainers: u32,
+    pub sessions: Seq<Session>,
+    pub batchers: Seq<Batcher>,
+    pub filters: Seq<Filter>,
+    pub map: Champions,
+    pub queues: Seq<Queue>,
+    pub maintainers: Seq<Maintainer<Record>>,
+    pub vectors: Seq<Vector>,
+    // What the indexers know. None is posted to yet.
+    pub indexers: Seq<Vector>,
+    pub senders: Seq<Sender>,
+    pub receivers: u32,
+    pub table: Aware,
+    /// The position up to which the own row counts.
+    pub learnt: Lid,
+}
