@@ -1,5 +1,5 @@
 -- What is read as a script has one datacentre, and its sessions append and read.
-use Rattle.std.proofs.Common.{◌≡◌, ℕ, ◌≤◌, List, [], ◌∷◌, length, refl, arith, All, sum_by}
+use Rattle.std.proofs.Common.{◌≡◌, ◌≤◌, ℕ, List, [], ◌∷◌, length, refl, arith, All, sum_by}
 use Rattle.std.proofs.lemmas.List.Elements.{All-nil, All-cons, All-head, All-tail}
 use Rattle.std.proofs.lemmas.List.Sums.{sum_by-cons}
 use Rattle.abstract_log.specs.declared.command.Command.{Command}
@@ -64,8 +64,7 @@ commands_sum (plan ∷ more) = omega (arith, sum_by-cons (λ (p : SessionPlan). 
 pub script_small : (script : Script) → FitsScript script → IsSmall script.workload
 script_small script fits = record { sessions = fits.limits.sessions; commands = omega (arith, commands_sum script.workload.sessions, fits.limits.commands) }
 
--- and its datacentre has 1 to 16 maintainers
-pub script_maintainers : (sizes : List Sizes) (n : ℕ) → All FitsSizes sizes → 1 ≤ length sizes → n ≡ maintainers_in sizes → (1 ≤ n) × (n ≤ 16)
-script_maintainers [] n fits some is = absurd (omega arith)
-script_maintainers (s ∷ more) n fits some is =
-    let first = (All-head FitsSizes s more fits).maintainers in (omega (arith, first.0, is), omega (arith, first.1, is))
+-- it has 1 to 16 maintainers
+pub maintainers_fit : (sizes : List Sizes) → All FitsSizes sizes → (1 ≤ maintainers_in sizes) × (maintainers_in sizes ≤ 16)
+maintainers_fit [] fits = (omega arith, omega arith)
+maintainers_fit (sizes ∷ more) fits = (All-head FitsSizes sizes more fits).maintainers
