@@ -1,15 +1,17 @@
 -- What is read as a script has one datacentre, and its sessions append and read.
-use Rattle.std.proofs.Common.{◌≡◌, ℕ, List, [], ◌∷◌, length, refl, arith, All, sum_by}
+use Rattle.std.proofs.Common.{◌≡◌, ℕ, ◌≤◌, List, [], ◌∷◌, length, refl, arith, All, sum_by}
 use Rattle.std.proofs.lemmas.List.Elements.{All-nil, All-cons, All-head, All-tail}
 use Rattle.std.proofs.lemmas.List.Sums.{sum_by-cons}
 use Rattle.abstract_log.specs.declared.command.Command.{Command}
 use Rattle.abstract_log.specs.declared.command.Command.TheVariants.{Append, Put, Get, Tx, Read, Last}
 use Rattle.abstract_log.specs.declared.command.SessionPlan.{SessionPlan}
 use Rattle.abstract_log.specs.declared.script.Script.{Script}
-use Rattle.abstract_log.specs.Fits.{FitsCommand, FitsPlan, FitsScript, commands_of}
+use Rattle.abstract_log.specs.declared.script.Sizes.{Sizes}
+use Rattle.abstract_log.specs.Fits.{FitsCommand, FitsPlan, FitsScript, FitsSizes, commands_of}
 use Rattle.script_text.specs.Spelled.{IsBuiltCommand}
 use Rattle.single_run.specs.Passes.{IsAppendOrRead, IsSingle}
 use Rattle.single_loop.specs.Passing.{IsSmall}
+use Rattle.chariots_program.specs.Ending.{maintainers_in}
 
 plain : (command : Command) → FitsCommand command → IsBuiltCommand command → IsAppendOrRead command
 plain (Append tags body) fits built = tt
@@ -61,3 +63,9 @@ commands_sum (plan ∷ more) = omega (arith, sum_by-cons (λ (p : SessionPlan). 
 -- it is small
 pub script_small : (script : Script) → FitsScript script → IsSmall script.workload
 script_small script fits = record { sessions = fits.limits.sessions; commands = omega (arith, commands_sum script.workload.sessions, fits.limits.commands) }
+
+-- and its datacentre has 1 to 16 maintainers
+pub script_maintainers : (sizes : List Sizes) (n : ℕ) → All FitsSizes sizes → 1 ≤ length sizes → n ≡ maintainers_in sizes → (1 ≤ n) × (n ≤ 16)
+script_maintainers [] n fits some is = absurd (omega arith)
+script_maintainers (s ∷ more) n fits some is =
+    let first = (All-head FitsSizes s more fits).maintainers in (omega (arith, first.0, is), omega (arith, first.1, is))

@@ -3,6 +3,8 @@
 #![tactic(auto)]
 
 #[cfg(test)]
+mod event_rows;
+#[cfg(test)]
 mod link_rows;
 #[cfg(test)]
 mod log_rows;

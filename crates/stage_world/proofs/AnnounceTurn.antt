@@ -41,6 +41,8 @@ announce_keeps w d z g t none late room inside h =
       };
       mapped = h.mapped;
       served = h.served;
+      marked = h.marked;
+      numbered = h.numbered;
       aware = h.aware;
       below = h.below;
       safe = h.safe;

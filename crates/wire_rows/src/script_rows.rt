@@ -12,7 +12,7 @@ struct Refused {
     cause: Cause,
 }
 
-const REFUSED: [Refused; 23] = [
+const REFUSED: [Refused; 24] = [
     Refused {
         script: b"",
         line: 1,
@@ -110,6 +110,11 @@ const REFUSED: [Refused; 23] = [
     },
     Refused {
         script: b"chariots 1\ndatacentres 1\nround 1\nsession A\nappend =x a/b\n",
+        line: 5,
+        cause: Cause::BadName,
+    },
+    Refused {
+        script: b"chariots 1\ndatacentres 1\nround 1\nsession A\nappend =x aaaaaaaaaaaaaaaaaaaaaaaaaaaaaaaaaaaaaaaaaaaaaaaaaaaaaaaaaaaaaaaaa\n",
         line: 5,
         cause: Cause::BadName,
     },
