@@ -178,10 +178,27 @@ fn a_put_is_read_elsewhere(rt: HostRuntime) -> Result<(), Fail> {
     assert_eq!(rt; played.stages.len(), 23);
     let lines = played.stages.as_slice();
     assert!(rt; matches!(&lines[0].outcome, Outcome::Submitted { k: 1 }));
-    assert!(rt; matches!(&lines[8].outcome, Outcome::Sent { link: 1, lost: false, .. }));
+    assert!(rt;
+        matches!(
+            &lines[8].outcome,
+            Outcome::Sent {
+                link: 1,
+                lost: false,
+                ..
+            }
+        )
+    );
     assert!(rt; matches!(&lines[9].outcome, Outcome::Lost));
     assert!(rt; matches!(&lines[10].outcome, Outcome::Absent));
-    assert!(rt; matches!(&lines[12].outcome, Outcome::Copied { link: 2, lost: false }));
+    assert!(rt;
+        matches!(
+            &lines[12].outcome,
+            Outcome::Copied {
+                link: 2,
+                lost: false
+            }
+        )
+    );
     assert!(rt; matches!(&lines[13].outcome, Outcome::Received { .. }));
     assert!(rt; matches!(&lines[14].outcome, Outcome::Absent));
     assert!(rt; matches!(&lines[20].outcome, Outcome::Head { at: 1 }));
