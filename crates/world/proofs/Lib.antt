@@ -1,0 +1,6 @@
+pub mod CallLemmas
+pub mod LinkLemmas
+pub mod OpeningLemmas
+pub mod SiteLemmas
+pub mod TakingLemmas
+pub mod MovingLemmas

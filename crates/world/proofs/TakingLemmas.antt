@@ -1,0 +1,140 @@
+-- Turns one after another.
+use Rattle.std.proofs.Common.{◌≡◌, Bool, false, List, [], ◌∷◌, ◌++◌, refl, ap, ap₂, sym, ◌∙◌, subst}
+use Rattle.std.specs.List.{All}
+use Rattle.std.proofs.lemmas.List.{map_push, append_assoc, append-nil}
+use Rattle.std.proofs.lemmas.List.Elements.{All-push}
+use Rattle.abstract_log.specs.declared.command.Workload.{Workload}
+use Rattle.abstract_log.specs.declared.event.Event.{Event}
+use Rattle.abstract_log.specs.declared.script.Outcome.{Outcome}
+use Rattle.abstract_log.specs.declared.script.Script.{Script}
+use Rattle.abstract_log.specs.declared.script.StageLine.{StageLine}
+use Rattle.abstract_log.specs.declared.script.Step.{Step}
+use Rattle.abstract_log.specs.Fits.{FitsLimits}
+use Rattle.abstract_log.specs.Runs.{IsRun, world_of}
+use Rattle.log_laws.proofs.LimitedRuns.{laws_of_run, workload_is}
+use Rattle.stage_world.specs.Stages.{Stages}
+use Rattle.stage_world.specs.Opening.{opening}
+use Rattle.stage_world.specs.Schedules.{IsStep, after_steps, events_of, step_of}
+use Rattle.stage_world.specs.Whole.{StandsFor}
+use Rattle.stage_world.proofs.AllTurns.{schedule}
+use Rattle.datacentre.specs.declared.done.TurnDone.{TurnDone}
+use Rattle.world.specs.declared.sites.Sites.{Sites}
+use Rattle.world.specs.declared.stages.Played.{Played}
+use Rattle.world.specs.Showing.{AreBuilt, HasMoved, IsBuiltStep, MayStep, Shows}
+use Rattle.world.specs.Taking.{HasTaken, IsPlayed, IsTaken, StagesState, Taken, events_after, lines_of, stages_after, steps_of}
+
+pub after_push : (load : Workload) (z : Stages) (ts : List Step) (t : Step) → after_steps load z (ts ++ t ∷ []) ≡ (step_of load (after_steps load z ts) t).after
+after_push load z [] t = refl
+after_push load z (s ∷ ts) t = after_push load (step_of load z s).after ts t
+
+pub events_push : (load : Workload) (z : Stages) (ts : List Step) (t : Step) → events_of load z (ts ++ t ∷ []) ≡ events_of load z ts ++ (step_of load (after_steps load z ts) t).events
+events_push load z [] t = append-nil (step_of load z t).events
+events_push load z (s ∷ ts) t = ap (λ es. (step_of load z s).events ++ es) (events_push load (step_of load z s).after ts t)
+    ∙ sym (append_assoc (step_of load z s).events (events_of load (step_of load z s).after ts) (step_of load (after_steps load (step_of load z s).after ts) t).events)
+
+pub lines_push : (load : Workload) (z : Stages) (ts : List Taken) (t : Taken)
+    → lines_of load z (ts ++ t ∷ []) ≡ lines_of load z ts ++ record { step = t.step; outcome = (step_of load (after_steps load z (steps_of ts)) t.step).outcome; settling = t.settling } ∷ []
+lines_push load z [] t = refl
+lines_push load z (s ∷ ts) t = ap (λ ls. record { step = s.step; outcome = (step_of load z s.step).outcome; settling = s.settling } ∷ ls) (lines_push load (step_of load z s.step).after ts t)
+
+-- Stages that have taken turns stand for the world of their run.
+
+pub run_of : (script : Script) (ts : List Taken) (s : StagesState) → HasTaken script ts s → IsRun s.workload s.events × StandsFor (world_of s.workload s.events) (stages_after script ts)
+run_of script ts s h =
+    let run = schedule script (steps_of ts) h.fits h.steps in (
+      subst (λ l. IsRun l s.events) (sym h.workload) (subst (IsRun script.workload) (sym h.events) run.0),
+      subst (λ l. StandsFor (world_of l s.events) (stages_after script ts)) (sym h.workload) (subst (λ es. StandsFor (world_of script.workload es) (stages_after script ts)) (sym h.events) run.1),
+    )
+
+pub may_take : (script : Script) (ts : List Taken) (s : StagesState) (step : Step) → HasTaken script ts s → IsStep s.workload step → IsBuiltStep step → MayStep s.workload step (stages_after script ts) s.sites
+may_take script ts s step h good built =
+    let run = run_of script ts s h in
+    record {
+      world = world_of s.workload s.events;
+      same = workload_is s.workload s.events;
+      lawful = laws_of_run s.workload s.events (subst FitsLimits (sym h.workload) h.fits.limits) run.0;
+      stands = run.1;
+      shown = subst (λ (l : Workload). Shows l.dcs (stages_after script ts) s.sites) (sym h.workload) h.shown;
+      fits = good;
+      built = built;
+      commands = subst AreBuilt (sym h.workload) h.built;
+    }
+
+-- some turns were taken, so one more may be
+pub may_take_some : (s : StagesState) (step : Step) → IsTaken s → IsStep s.workload step → IsBuiltStep step → (z : Stages) × MayStep s.workload step z s.sites
+may_take_some s step h good built = (stages_after h.script h.turns, may_take h.script h.turns s step h.taken good built)
+
+-- the state after one more turn
+abbrev pub state_with : StagesState → Step → Bool → Sites → TurnDone → StagesState
+state_with s step settling sites done = record {
+  workload = s.workload;
+  sites = sites;
+  events = s.events ++ done.events;
+  lines = s.lines ++ record { step = step; outcome = done.outcome; settling = settling } ∷ [];
+  failed = false;
+}
+
+pub taken_next : (script : Script) (ts : List Taken) (s : StagesState) (step : Step) (settling : Bool) (sites : Sites) (done : TurnDone) → HasTaken script ts s → IsStep s.workload step
+    → HasMoved s.workload.dcs (step_of s.workload (stages_after script ts) step) sites done → HasTaken script (ts ++ record { step = step; settling = settling } ∷ []) (state_with s step settling sites done)
+taken_next script ts s step settling sites done h good moved =
+    let load : Workload = script.workload in
+    let z : Stages = opening script in
+    let t : Taken = record { step = step; settling = settling } in
+    let steps : steps_of (ts ++ t ∷ []) ≡ steps_of ts ++ step ∷ [] = map_push (λ (x : Taken). x.step) ts t in
+    let here : HasMoved load.dcs (step_of load (stages_after script ts) step) sites done = subst (λ (l : Workload). HasMoved l.dcs (step_of l (stages_after script ts) step) sites done) h.workload moved in
+    record {
+      fits = h.fits;
+      built = h.built;
+      steps = subst (All (IsStep load)) (sym steps) (All-push (IsStep load) (steps_of ts) step h.steps (subst (λ l. IsStep l step) h.workload good));
+      well = refl;
+      workload = h.workload;
+      shown = subst (λ y. Shows load.dcs y sites) (sym (ap (after_steps load z) steps ∙ after_push load z (steps_of ts) step)) here.shown;
+      events = ap₂ (λ (a : List Event) (b : List Event). a ++ b) h.events here.events ∙ sym (ap (events_of load z) steps ∙ events_push load z (steps_of ts) step);
+      lines =
+          ap₂ (λ (a : List StageLine) (o : Outcome). a ++ record { step = step; outcome = o; settling = settling } ∷ []) h.lines here.outcome
+          ∙ sym (lines_push load z ts t);
+    }
+
+pub some_next : (s : StagesState) (step : Step) (settling : Bool) (sites : Sites) (done : TurnDone) → IsTaken s → IsStep s.workload step → IsBuiltStep step
+    → ((z : Stages) → MayStep s.workload step z s.sites → HasMoved s.workload.dcs (step_of s.workload z step) sites done) → IsTaken (state_with s step settling sites done)
+some_next s step settling sites done h good built moves = record {
+  script = h.script;
+  turns = h.turns ++ record { step = step; settling = settling } ∷ [];
+  taken = taken_next h.script h.turns s step settling sites done h.taken good (moves (stages_after h.script h.turns) (may_take h.script h.turns s step h.taken good built));
+}
+
+pub played : (script : Script) (ts : List Taken) (s : StagesState) (result : Played) → HasTaken script ts s → result.run.workload ≡ s.workload → result.run.events ≡ s.events → result.stages ≡ s.lines → IsPlayed script ts result
+played script ts s result h workload events lines =
+    let run = schedule script (steps_of ts) h.fits h.steps in
+    let is : result.run.events ≡ events_after script ts = events ∙ h.events in
+    record {
+      workload = workload ∙ h.workload;
+      events = is;
+      lines = lines ∙ h.lines;
+      is_run = subst (IsRun script.workload) (sym is) run.0;
+      stands = subst (λ es. StandsFor (world_of script.workload es) (stages_after script ts)) (sym is) run.1;
+    }
+
+-- what was written is as the code has it
+written : (s : StagesState) (step : Step) (settling : Bool) (sites : Sites) (done : TurnDone) (es : List Event) (ls : List StageLine) → es ≡ s.events ++ done.events
+    → ls ≡ s.lines ++ record { step = step; outcome = done.outcome; settling = settling } ∷ []
+    → state_with s step settling sites done ≡ record { workload = s.workload; sites = sites; events = es; lines = ls; failed = false }
+written s step settling sites done es ls events lines =
+    ap₂ (λ (a : List Event) (b : List StageLine). record { workload = s.workload; sites = sites; events = a; lines = b; failed = false }) (sym events) (sym lines)
+
+module _ (s : StagesState) (step : Step) (settling : Bool) (sites : Sites) (done : TurnDone) (es : List Event) (ls : List StageLine) (events : es ≡ s.events ++ done.events)
+    (lines : ls ≡ s.lines ++ record { step = step; outcome = done.outcome; settling = settling } ∷ []) (good : IsStep s.workload step) (built : IsBuiltStep step)
+    (moves : (z : Stages) → MayStep s.workload step z s.sites → HasMoved s.workload.dcs (step_of s.workload z step) sites done) where
+  abbrev new : StagesState
+  new = record { workload = s.workload; sites = sites; events = es; lines = ls; failed = false }
+
+  pub some_written : IsTaken s → IsTaken new
+  some_written h = subst IsTaken (written s step settling sites done es ls events lines) (some_next s step settling sites done h good built moves)
+
+  pub taken_written : (script : Script) (ts : List Taken) → HasTaken script ts s → HasTaken script (ts ++ record { step = step; settling = settling } ∷ []) new
+  taken_written script ts h =
+      subst (HasTaken script (ts ++ record { step = step; settling = settling } ∷ [])) (written s step settling sites done es ls events lines)
+      (taken_next script ts s step settling sites done h good (moves (stages_after script ts) (may_take script ts s step h good built)))
+
+  pub run_written : IsTaken s → IsRun s.workload es
+  run_written h = let is : IsTaken new = some_written h in (run_of is.script is.turns new is.taken).0

@@ -1,0 +1,156 @@
+-- The datacentres and links of the code, and the stage world that they show.
+use Rattle.std.specs.Prelude.{◌≡◌, ⊤, ℕ, ◌+◌, ◌<◌, ◌∷◌, Bool, true, false, List, [], length, map, slice_index_or, slice_set, All, Option, Some}
+use Rattle.abstract_log.specs.declared.command.SessionPlan.{SessionPlan}
+use Rattle.abstract_log.specs.declared.command.Workload.{Workload}
+use Rattle.abstract_log.specs.declared.script.Script.{Script}
+use Rattle.abstract_log.specs.declared.script.Step.{Step}
+use Rattle.abstract_log.specs.declared.script.Step.TheVariants.{Client, Flush, Pass, Stamp, Token, Place, Gossip, Post, Learn, Send, Deliver, Lose, Copy, Floor, Collect, Announce, Mark, AddMaintainer, AddBatcher, AddQueue, AddSender, AddReceiver}
+use Rattle.abstract_log.specs.declared.world.World.{World}
+use Rattle.log_laws.specs.Lawful.{IsLawful}
+use Rattle.record_codec.specs.declared.message.Message.{Message}
+use Rattle.record_codec.specs.Wire.{message_bytes}
+use Rattle.stage_world.specs.Stages.{Datacentre, Stages}
+use Rattle.stage_world.specs.Opening.{one_of_each, opening_at}
+use Rattle.stage_world.specs.LinkTurns.{Moved}
+use Rattle.stage_world.specs.Schedules.{IsStep, turn_of}
+use Rattle.stage_world.specs.Whole.{StandsFor}
+use Rattle.datacentre.specs.declared.done.TurnDone.{TurnDone}
+use Rattle.stage_world.specs.Turns.{Turned}
+use Rattle.datacentre.specs.Seen.{DatacentreState, StandsForALog}
+use Rattle.datacentre.specs.Told.{IsToldBy}
+use Rattle.world.specs.declared.sites.Sites.{Sites}
+use Rattle.datacentre.specs.Turning.{IsBuilt, IsBuiltCommand, IsPacketOf}
+
+-- datacentres from number n on, of which none has failed
+abbrev pub states_from : ℕ → List Datacentre → List DatacentreState
+states_from n [] = []
+states_from n (z ∷ zs) = record { dc = n; stages = Some z } ∷ states_from (n + 1) zs
+
+-- datacentre d as the script opens it
+abbrev pub opened_at : Script → ℕ → Datacentre
+opened_at script d = opening_at script.round (slice_index_or script.sizes d one_of_each) script.workload d
+
+-- the packets that spell the messages of a link between two of so many datacentres, and those of all links
+abbrev pub packets_of : ℕ → List Message → List (List ℕ)
+packets_of dcs ms = map (message_bytes dcs) ms
+
+abbrev pub rows_of : ℕ → List (List (List Message)) → List (List (List (List ℕ)))
+rows_of dcs links = map (λ row. map (packets_of dcs) row) links
+
+-- The datacentres are those of the stage world, and each link has the packets that spell its messages.
+pub record Shows (dcs : ℕ) (z : Stages) (sites : Sites) : Type 0 where
+  pub datacentres : sites.datacentres ≡ states_from 0 z.datacentres
+  pub links : sites.links ≡ rows_of dcs z.links
+  pub count : length z.datacentres ≡ dcs
+  pub rows : length z.links ≡ dcs
+  pub columns : All (λ row. length row ≡ dcs) z.links
+
+-- The sites are those that a turn leaves, and its outcome and its events are answered.
+pub record HasMoved (dcs : ℕ) (moved : Moved) (sites : Sites) (done : TurnDone) : Type 0 where
+  pub shown : Shows dcs moved.after sites
+  pub outcome : done.outcome ≡ moved.outcome
+  pub events : done.events ≡ moved.events
+
+-- all commands are appends, puts and reads
+abbrev pub AreBuilt : Workload → Type 0
+AreBuilt load = All (λ (plan : SessionPlan). All IsBuiltCommand plan.commands) load.sessions
+
+-- the turns that are built so far
+abbrev pub IsBuiltStep : Step → Type 0
+IsBuiltStep (Client s) = ⊤
+IsBuiltStep (Flush d b) = ⊤
+IsBuiltStep (Pass d f q) = ⊤
+IsBuiltStep (Stamp d q) = ⊤
+IsBuiltStep (Token d) = ⊤
+IsBuiltStep (Place d q m) = ⊤
+IsBuiltStep (Gossip d m k) = ⊤
+IsBuiltStep (Post d m i) = ⊥
+IsBuiltStep (Learn d) = ⊤
+IsBuiltStep (Send d k e) = ⊤
+IsBuiltStep (Deliver d e k r) = ⊤
+IsBuiltStep (Lose d e k) = ⊤
+IsBuiltStep (Copy d e k) = ⊤
+IsBuiltStep (Floor d p) = ⊥
+IsBuiltStep (Collect d m) = ⊥
+IsBuiltStep (Announce d h t) = ⊥
+IsBuiltStep (Mark d) = ⊥
+IsBuiltStep (AddMaintainer d p) = ⊥
+IsBuiltStep (AddBatcher d) = ⊥
+IsBuiltStep (AddQueue d) = ⊥
+IsBuiltStep (AddSender d) = ⊥
+IsBuiltStep (AddReceiver d) = ⊥
+
+-- a turn that uses a link
+abbrev pub uses_link : Step → Bool
+uses_link (Client s) = false
+uses_link (Flush d b) = false
+uses_link (Pass d f q) = false
+uses_link (Stamp d q) = false
+uses_link (Token d) = false
+uses_link (Place d q m) = false
+uses_link (Gossip d m k) = false
+uses_link (Post d m i) = false
+uses_link (Learn d) = false
+uses_link (Send d k e) = true
+uses_link (Deliver d e k r) = true
+uses_link (Lose d e k) = true
+uses_link (Copy d e k) = true
+uses_link (Floor d p) = false
+uses_link (Collect d m) = false
+uses_link (Announce d h t) = false
+uses_link (Mark d) = false
+uses_link (AddMaintainer d p) = false
+uses_link (AddBatcher d) = false
+uses_link (AddQueue d) = false
+uses_link (AddSender d) = false
+uses_link (AddReceiver d) = false
+
+-- Of these datacentres, number d has the stages z.
+pub record IsSeenAt (d : ℕ) (z : Datacentre) (datacentres : List DatacentreState) : Type 0 where
+  pub there : d < length datacentres
+  pub is : (other : DatacentreState) → slice_index_or datacentres d other ≡ record { dc = d; stages = Some z }
+
+-- Datacentre d may take the step.
+pub record MayTurnAt (d : ℕ) (step : Step) (datacentres : List DatacentreState) : Type 0 where
+  pub stages : Datacentre
+  pub seen : IsSeenAt d stages datacentres
+  pub log : StandsForALog d stages
+  pub built : IsBuilt stages step
+
+-- Datacentre d may send to e.
+pub record MaySendAt (d e : ℕ) (datacentres : List DatacentreState) : Type 0 where
+  pub stages : Datacentre
+  pub seen : IsSeenAt d stages datacentres
+  pub log : StandsForALog d stages
+  pub to : e < length stages.table
+
+-- A receiver of datacentre d may get the packet from the link from another.
+pub record MayReceiveAt (d from : ℕ) (packet : List ℕ) (datacentres : List DatacentreState) : Type 0 where
+  pub stages : Datacentre
+  pub seen : IsSeenAt d stages datacentres
+  pub log : StandsForALog d stages
+  pub told : IsToldBy (length stages.table) from packet
+
+-- Datacentre d took a turn, and the others did nothing.
+pub record HasTurned (d : ℕ) (turned : Turned) (old new : List DatacentreState) (done : TurnDone) : Type 0 where
+  pub datacentres : new ≡ slice_set old d (record { dc = d; stages = Some turned.after })
+  pub outcome : done.outcome ≡ turned.outcome
+  pub events : done.events ≡ turned.events
+
+-- Sender k of datacentre d answered, and made a packet for e if it is there; no stage changed.
+pub record HasSent (d k e : ℕ) (z : Datacentre) (old new : List DatacentreState) (sent : TurnDone × Option (List ℕ)) : Type 0 where
+  pub datacentres : new ≡ old
+  pub outcome : sent.0.outcome ≡ (turn_of d z (Send d k e)).outcome
+  pub events : sent.0.events ≡ []
+  pub packet : IsPacketOf d z k e sent.1
+
+-- The sites show stages that stand for a world which a run has left, and may take this step.
+pub record MayStep (load : Workload) (step : Step) (z : Stages) (sites : Sites) : Type 0 where
+  pub world : World
+  pub same : world.workload ≡ load
+  pub lawful : IsLawful world
+  pub stands : StandsFor world z
+  pub shown : Shows load.dcs z sites
+  pub fits : IsStep load step
+  pub built : IsBuiltStep step
+  pub commands : AreBuilt load

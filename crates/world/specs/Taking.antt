@@ -1,0 +1,71 @@
+-- The turns that all stages have taken since a script opened them.
+use Rattle.std.specs.Prelude.{◌≡◌, Bool, false, List, [], ◌∷◌, map, All}
+use Rattle.abstract_log.specs.declared.command.Workload.{Workload}
+use Rattle.abstract_log.specs.declared.event.Event.{Event}
+use Rattle.abstract_log.specs.declared.script.Script.{Script}
+use Rattle.abstract_log.specs.declared.script.StageLine.{StageLine}
+use Rattle.abstract_log.specs.declared.script.Step.{Step}
+use Rattle.abstract_log.specs.Fits.{FitsScript}
+use Rattle.abstract_log.specs.Runs.{IsRun, world_of}
+use Rattle.stage_world.specs.Stages.{Stages}
+use Rattle.stage_world.specs.Opening.{opening}
+use Rattle.stage_world.specs.Schedules.{IsStep, after_steps, events_of, step_of}
+use Rattle.stage_world.specs.Whole.{StandsFor}
+use Rattle.world.specs.declared.sites.Sites.{Sites}
+use Rattle.world.specs.declared.stages.Played.{Played}
+use Rattle.world.specs.Showing.{AreBuilt, Shows}
+
+-- a turn that was taken, and whether it belongs to settling
+pub record Taken : Type 0 where
+  pub step : Step
+  pub settling : Bool
+
+abbrev pub steps_of : List Taken → List Step
+steps_of ts = map (λ t. t.step) ts
+
+-- the stage lines of turns from stages z on
+abbrev pub lines_of : Workload → Stages → List Taken → List StageLine
+lines_of load z [] = []
+lines_of load z (t ∷ ts) =
+    record { step = t.step; outcome = (step_of load z t.step).outcome; settling = t.settling } ∷ lines_of load (step_of load z t.step).after ts
+
+-- the stages after turns, and their events
+abbrev pub stages_after : Script → List Taken → Stages
+stages_after script ts = after_steps script.workload (opening script) (steps_of ts)
+
+abbrev pub events_after : Script → List Taken → List Event
+events_after script ts = events_of script.workload (opening script) (steps_of ts)
+
+-- what contracts see of all stages: the workload, the datacentres and links, what was written, and whether memory was wanted
+pub record StagesState : Type 0 where
+  pub workload : Workload
+  pub sites : Sites
+  pub events : List Event
+  pub lines : List StageLine
+  pub failed : Bool
+
+-- These are the stages that the script opens, after these turns; the events and the lines are those of the turns.
+pub record HasTaken (script : Script) (ts : List Taken) (s : StagesState) : Type 0 where
+  pub fits : FitsScript script
+  pub built : AreBuilt script.workload
+  pub steps : All (IsStep script.workload) (steps_of ts)
+  pub well : s.failed ≡ false
+  pub workload : s.workload ≡ script.workload
+  pub shown : Shows script.workload.dcs (stages_after script ts) s.sites
+  pub events : s.events ≡ events_after script ts
+  pub lines : s.lines ≡ lines_of script.workload (opening script) ts
+
+-- These are stages that some script opens, after some turns.
+pub record IsTaken (s : StagesState) : Type 0 where
+  pub script : Script
+  pub turns : List Taken
+  pub taken : HasTaken script turns s
+
+-- What was written is a run on the script's workload, the one of these turns, with their lines; and the stages after the turns
+-- stand for the world that the run leaves.
+pub record IsPlayed (script : Script) (ts : List Taken) (played : Played) : Type 0 where
+  pub workload : played.run.workload ≡ script.workload
+  pub events : played.run.events ≡ events_after script ts
+  pub lines : played.stages ≡ lines_of script.workload (opening script) ts
+  pub is_run : IsRun script.workload played.run.events
+  pub stands : StandsFor (world_of script.workload played.run.events) (stages_after script ts)

@@ -1,0 +1,20 @@
+//! All datacentres with the links between them, and the turns that they take.
+//!
+//! The model is the stage world: the datacentres as plain data, and each link as the list of its messages. The theorem for
+//! the layer above: whatever turns are taken, the events that are written are those of the stage world's turns, with one
+//! line for each of them, so they are a run of the log on the script's workload, and the stages stand for the world that it
+//! leaves.
+#![tactic(auto)]
+
+mod calls;
+mod laws;
+mod linking;
+mod opening;
+mod packets;
+mod places;
+mod sites;
+mod stages;
+mod stepping;
+
+pub use laws::turns_are_runs;
+pub use stages::{Played, Stages};

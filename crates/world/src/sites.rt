@@ -1,0 +1,10 @@
+use cz_base::Seq;
+use datacentre::Datacentre;
+use lossy_links::Link;
+
+/// The datacentres by letter, and the links from each to each.
+#[derive(Drop)]
+pub(crate) struct Sites {
+    pub datacentres: Seq<Datacentre>,
+    pub links: Seq<Seq<Link>>,
+}

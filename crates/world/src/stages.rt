@@ -1,0 +1,119 @@
+ghost use Rattle.std.specs.Prelude.{◌≡◌, true, false, List, [], ◌∷◌, ◌++◌, IfOk, OnErr, OnOk, IsErr};
+ghost use Rattle.abstract_log.specs.declared.script.Script.{Script as ScriptValue};
+ghost use Rattle.abstract_log.specs.Fits.{FitsScript};
+ghost use Rattle.abstract_log.specs.Runs.{IsRun};
+ghost use Rattle.stage_world.specs.Schedules.{IsStep};
+ghost use Rattle.world.specs.Showing.{AreBuilt, IsBuiltStep};
+
+use crate::opening::open_sites;
+use crate::sites::Sites;
+use abstract_log::{Event, Run, Script, StageLine, StageLog, Step, Workload};
+use cz_base::{NoMemory, Seq};
+use std::alloc::Global;
+use std::marker::Model;
+
+/// A run, and the turns that brought it.
+#[derive(Debug, Drop)]
+pub struct Played {
+    pub run: Run,
+    pub stages: StageLog,
+}
+
+/// All datacentres, the links between them, and what was written of their turns. Once a call has answered `NoMemory`, so does
+/// each later turn.
+#[derive(Drop)]
+pub struct Stages {
+    workload: Workload,
+    sites: Sites,
+    events: Seq<Event>,
+    lines: StageLog,
+    failed: bool,
+}
+
+impl Model for Stages {
+    ghost use Rattle.std.specs.Prelude.{◌≡◌, false};
+    ghost use Rattle.world.specs.Taking.{IsTaken, StagesState};
+
+    ghost Value = { StagesState };
+
+    ghost view = { λ s. record { workload = s.workload; sites = s.sites; events = s.events; lines = s.lines; failed = s.failed } };
+
+    ghost invariant = { λ s. s.failed ≡ false → IsTaken (record { workload = s.workload; sites = s.sites; events = s.events; lines = s.lines; failed = s.failed }) };
+}
+
+impl Stages {
+    ghost use Rattle.world.specs.Taking.{HasTaken, IsPlayed, Taken};
+
+    /// The stages as a script opens them. Its steps are not taken yet.
+    pub fn start(alloc: Global, script: &Script) -> Result<Self, NoMemory>
+        requires fits { FitsScript script.now }
+        requires built { AreBuilt script.now.workload }
+        ensures { IfOk result (λ stages. HasTaken script.now [] stages) }
+    {
+        Ok(Stages {
+            workload: script.workload.copy()?,
+            sites: open_sites(alloc, script)?,
+            events: Seq::new(alloc),
+            lines: Seq::new(alloc),
+            failed: false,
+        })
+    }
+
+    /// Takes one turn, and writes its line and its events.
+    pub fn turn(&mut self, step: &Step) -> Result<(), NoMemory>
+        requires step { IsStep self.old.workload step.now }
+        requires built { IsBuiltStep step.now }
+        // Whatever turns were taken, they are now one more.
+        ensures taken { (script : ScriptValue) (ts : List Taken) → HasTaken script ts self.old → OnOk result (HasTaken script (ts ++ record { step = step.now; settling = false } ∷ []) self.new) }
+
+        // What is written is a run on the workload.
+        ensures run { OnOk result (IsRun self.new.workload self.new.events) }
+        ensures workload { self.new.workload ≡ self.old.workload }
+        ensures failed { OnErr result (self.new.failed ≡ true) }
+        ensures later { self.old.failed ≡ true → IsErr result }
+    {
+        self.take(step, false)
+    }
+
+    // Takes one turn, and writes its line and its events.
+    fn take(&mut self, step: &Step, settling: bool) -> Result<(), NoMemory>
+        requires step { IsStep self.old.workload step.now }
+        requires built { IsBuiltStep step.now }
+        ensures taken { (script : ScriptValue) (ts : List Taken) → HasTaken script ts self.old → OnOk result (HasTaken script (ts ++ record { step = step.now; settling = settling } ∷ []) self.new) }
+        ensures run { OnOk result (IsRun self.new.workload self.new.events) }
+        ensures workload { self.new.workload ≡ self.old.workload }
+        ensures failed { OnErr result (self.new.failed ≡ true) }
+        ensures later { self.old.failed ≡ true → IsErr result }
+    {
+        if self.failed {
+            return Err(NoMemory);
+        }
+        self.failed = true;
+        let done = self.sites.step(&self.workload, step)?;
+        self.lines.push(StageLine {
+            step: *step,
+            outcome: done.outcome,
+            settling,
+        })?;
+        self.events.append(done.events)?;
+        self.failed = false;
+        Ok(())
+    }
+
+    /// What was written: the run, and a line for each turn.
+    pub fn finish(self) -> Played
+        ensures { (script : ScriptValue) (ts : List Taken) → HasTaken script ts self → IsPlayed script ts result }
+    {
+        let Stages {
+            workload,
+            sites: _,
+            events,
+            lines,
+            failed: _,
+        } = self;
+        Played {
+            run: Run { workload, events },
+            stages: lines,
+        }
+    }
+}

@@ -1,0 +1,210 @@
+ghost use Rattle.std.specs.Prelude.{◌≡◌, [], ◌∷◌, IfOk, IsTrue};
+ghost use Rattle.abstract_log.specs.declared.command.Command.TheVariants.{Read};
+ghost use Rattle.abstract_log.specs.Fits.{FitsScript, FitsSizes};
+ghost use Rattle.stage_world.specs.Schedules.{AreTwo, IsStep};
+ghost use Rattle.world.specs.Showing.{AreBuilt, IsBuiltStep};
+ghost use Rattle.world_rows.specs.Given.{AreOnePut, IsGiven};
+
+use abstract_log::{Command, Event, Outcome, Script, SessionPlan, Sizes, Step, Workload};
+use cz_base::{Body, DcId, Name, Seq};
+use std::alloc::Global;
+use std::process::Abort;
+use std::test::Fail;
+use world::Stages;
+
+fn sizes() -> Sizes
+    ensures { FitsSizes result }
+{
+    Sizes {
+        batchers: 2,
+        filters: 2,
+        queues: 2,
+        maintainers: 2,
+        indexers: 1,
+        senders: 1,
+        receivers: 1,
+    }
+}
+
+fn second() -> DcId
+    ensures { result ≡ 1 }
+{
+    match DcId::new(1) {
+        Some(dc) => dc,
+        None => unreachable!(),
+    }
+}
+
+fn one_put(alloc: Global) -> Result<Seq<Command>, Fail>
+    ensures { IfOk result AreOnePut }
+{
+    let key = Name::read(alloc, b"x")?;
+    let body = Body::read(alloc, b"1")?;
+    let mut commands = Seq::new(alloc);
+    commands.push(Command::Put { key, body })?;
+    Ok(commands)
+}
+
+fn one_read(alloc: Global) -> Result<Seq<Command>, Fail>
+    ensures { IfOk result (λ commands. commands ≡ Read 1 ∷ []) }
+{
+    let mut commands = Seq::new(alloc);
+    commands.push(Command::Read { lid: 1 })?;
+    Ok(commands)
+}
+
+// At A a session puts a value, at B one reads the first position.
+fn workload(alloc: Global) -> Result<Workload, Fail>
+    ensures { IfOk result IsGiven }
+{
+    let mut sessions = Seq::new(alloc);
+    sessions.push(SessionPlan {
+        home: DcId::FIRST,
+        commands: one_put(alloc)?,
+    })?;
+    sessions.push(SessionPlan {
+        home: second(),
+        commands: one_read(alloc)?,
+    })?;
+    Ok(Workload { dcs: 2, sessions })
+}
+
+fn script(alloc: Global) -> Result<Script, Fail>
+    ensures fits { IfOk result FitsScript }
+    ensures built { IfOk result (λ script. AreBuilt script.workload) }
+{
+    let mut each = Seq::new(alloc);
+    each.push(sizes())?;
+    each.push(sizes())?;
+    Ok(Script {
+        workload: workload(alloc)?,
+        round: 4,
+        sizes: each,
+        steps: Seq::new(alloc),
+    })
+}
+
+// Whether the step is one that these stages may take.
+fn may_take(workload: &Workload, step: &Step) -> bool
+    ensures step { IsTrue result → IsStep workload.now step.now }
+    ensures built { IsTrue result → IsBuiltStep step.now }
+{
+    let dcs = workload.dcs;
+    match *step {
+        Step::Client { s } => (s as usize) < workload.sessions.len(),
+        Step::Flush { d, b: _ } => d.number() < dcs,
+        Step::Pass { d, f: _, q: _ } => d.number() < dcs,
+        Step::Stamp { d, q: _ } => d.number() < dcs,
+        Step::Token { d } => d.number() < dcs,
+        Step::Place { d, q: _, m: _ } => d.number() < dcs,
+        Step::Gossip { d, m: _, k: _ } => d.number() < dcs,
+        Step::Learn { d } => d.number() < dcs,
+        Step::Send { d, k: _, e } => are_two(dcs, d, e),
+        Step::Deliver { d, e, k: _, r: _ } => are_two(dcs, d, e),
+        Step::Lose { d, e, k: _ } => are_two(dcs, d, e),
+        Step::Copy { d, e, k: _ } => are_two(dcs, d, e),
+        _ => false,
+    }
+}
+
+fn are_two(dcs: u32, d: DcId, e: DcId) -> bool
+    ensures { IsTrue result → AreTwo dcs d e }
+{
+    d.number() < dcs && e.number() < dcs && d.number() != e.number()
+}
+
+fn take_all(stages: &mut Stages, workload: &Workload, steps: &[Step]) -> Result<(), Fail>
+    requires { stages.old.workload ≡ workload.now }
+{
+    for step in steps {
+        if !may_take(workload, step) {
+            return Err(Fail::from("a step that the stages may not take"));
+        }
+        stages.turn(step)?;
+    }
+    Ok(())
+}
+
+// A puts x; the first message is lost, the second comes twice, and B adds the record once and reads it.
+#[test]
+fn a_put_is_read_elsewhere(rt: HostRuntime) -> Result<(), Fail> {
+    let alloc = rt.alloc();
+    let a = DcId::FIRST;
+    let b = second();
+    let script = script(alloc)?;
+    let mut stages = Stages::start(alloc, &script)?;
+    let steps = [
+        Step::Client { s: 0 },
+        Step::Flush { d: a, b: 0 },
+        Step::Pass { d: a, f: 0, q: 0 },
+        Step::Stamp { d: a, q: 0 },
+        Step::Token { d: a },
+        Step::Place { d: a, q: 0, m: 0 },
+        Step::Gossip { d: a, m: 0, k: 0 },
+        Step::Learn { d: a },
+        Step::Send { d: a, k: 0, e: b },
+        Step::Lose { d: a, e: b, k: 1 },
+        Step::Deliver {
+            d: a,
+            e: b,
+            k: 1,
+            r: 0,
+        },
+        Step::Send { d: a, k: 0, e: b },
+        Step::Copy { d: a, e: b, k: 1 },
+        Step::Deliver {
+            d: a,
+            e: b,
+            k: 2,
+            r: 0,
+        },
+        Step::Deliver {
+            d: a,
+            e: b,
+            k: 1,
+            r: 1,
+        },
+        Step::Flush { d: b, b: 0 },
+        Step::Pass { d: b, f: 0, q: 0 },
+        Step::Pass { d: b, f: 1, q: 0 },
+        Step::Stamp { d: b, q: 0 },
+        Step::Place { d: b, q: 0, m: 0 },
+        Step::Gossip { d: b, m: 0, k: 0 },
+        Step::Gossip { d: b, m: 0, k: 1 },
+        Step::Client { s: 1 },
+    ];
+    take_all(&mut stages, &script.workload, &steps)?;
+    let played = stages.finish();
+    assert_eq!(rt; played.stages.len(), 23);
+    let lines = played.stages.as_slice();
+    assert!(rt; matches!(&lines[0].outcome, Outcome::Submitted { k: 1 }));
+    assert!(rt;
+        matches!(
+            &lines[8].outcome,
+            Outcome::Sent {
+                link: 1,
+                lost: false,
+                ..
+            }
+        )
+    );
+    assert!(rt; matches!(&lines[9].outcome, Outcome::Lost));
+    assert!(rt; matches!(&lines[10].outcome, Outcome::Absent));
+    assert!(rt;
+        matches!(
+            &lines[12].outcome,
+            Outcome::Copied {
+                link: 2,
+                lost: false
+            }
+        )
+    );
+    assert!(rt; matches!(&lines[13].outcome, Outcome::Received { .. }));
+    assert!(rt; matches!(&lines[14].outcome, Outcome::Absent));
+    assert!(rt; matches!(&lines[20].outcome, Outcome::Head { at: 1 }));
+    assert!(rt; matches!(&lines[22].outcome, Outcome::Replied { k: 1 }));
+    // Submit, append, learn at A; receive, add, submit, reply at B.
+    assert_eq!(rt; played.run.events.len(), 7);
+    assert!(rt; matches!(&played.run.events.as_slice()[6], Event::Reply { at: 1, .. }));
+    Ok(())
+}
