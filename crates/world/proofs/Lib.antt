@@ -1,3 +1,4 @@
+pub mod FinishedWhen
 pub mod CallLemmas
 pub mod LinkLemmas
 pub mod OpeningLemmas

@@ -69,3 +69,7 @@ pub record IsPlayed (script : Script) (ts : List Taken) (played : Played) : Type
   pub lines : played.stages ≡ lines_of script.workload (opening script) ts
   pub is_run : IsRun script.workload played.run.events
   pub stands : StandsFor (world_of script.workload played.run.events) (stages_after script ts)
+
+-- More turns were taken.
+abbrev pub HasGoneOn : StagesState → StagesState → Type 0
+HasGoneOn old new = (script : Script) (ts : List Taken) → HasTaken script ts old → (more : List Taken) × HasTaken script (ts ++ more) new
