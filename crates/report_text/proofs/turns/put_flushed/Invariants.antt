@@ -1,0 +1,8 @@
+use Rattle.std.proofs.Common.{◌≡◌, ◌++◌, take}
+use Rattle.std.specs.List.{flat_map}
+use Rattle.report_text.specs.Lines.{with_space}
+use Rattle.report_text.specs.Turns.{flush_words}
+use Rattle.report_text.proofs.turns.put_flushed.Given as goal
+
+abbrev pub invariant-loop-item : goal.invariant-loop-item
+invariant-loop-item l = l.text ≡ l.initial.text ++ flat_map with_space (flat_map flush_words (take l.item-index l.item-items))

@@ -1,0 +1,6 @@
+use Rattle.std.proofs.Common.{◌≡◌, ◌++◌, take}
+use Rattle.report_text.specs.Values.{counts_word}
+use Rattle.report_text.proofs.values.put_counts.Given as goal
+
+abbrev pub invariant-loop-number : goal.invariant-loop-number
+invariant-loop-number l = l.text ≡ l.fn.text ++ counts_word (take l.number l.counts)

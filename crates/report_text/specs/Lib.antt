@@ -1,0 +1,5 @@
+pub mod Numbered
+pub mod Lines
+pub mod Values
+pub mod Turns
+pub mod Report

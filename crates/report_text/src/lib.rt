@@ -1,0 +1,12 @@
+//! The reports of a run as text. What a report says is defined as its lines, each of them as its words;
+//! what is written here is the bytes of these lines and no others.
+#![tactic(auto)]
+
+mod events;
+mod report;
+mod text;
+mod turns;
+mod values;
+
+pub use report::{Left, full, logs};
+pub use text::Text;
