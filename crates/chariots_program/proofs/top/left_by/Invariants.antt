@@ -6,4 +6,4 @@ use Rattle.chariots_program.proofs.top.left_by.Given as goal
 
 -- the world is that after the events so far
 abbrev pub invariant-loop-event : goal.invariant-loop-event
-invariant-loop-event l = (l.world ≡ after_all (start l.args.run.now.workload) (take l.event-index l.event-items)) × IsShaped l.world
+invariant-loop-event l = (l.world ≡ after_all (start l.fn.run.workload) (take l.event-index l.event-items)) × IsShaped l.world
