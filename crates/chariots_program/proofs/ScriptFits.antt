@@ -1,5 +1,5 @@
 -- What is read as a script may be replayed: its commands and its steps are built, and its steps are in their ranges.
-use Rattle.std.proofs.Common.{◌≡◌, ◌<◌, ◌^◌, ℕ, List, [], ◌∷◌, arith, All}
+use Rattle.std.proofs.Common.{ℕ, List, [], ◌∷◌, arith, All}
 use Rattle.std.proofs.lemmas.List.Elements.{All-nil, All-cons, All-head, All-tail}
 use Rattle.abstract_log.specs.declared.command.Command.{Command}
 use Rattle.abstract_log.specs.declared.command.Command.TheVariants.{Append, Put, Get, Tx, Read, Last}
@@ -10,7 +10,7 @@ use Rattle.abstract_log.specs.declared.script.Step.TheVariants.{Client, Flush, P
 use Rattle.script_text.specs.Steps.{FitsStep, AreTwo as AreApart}
 use Rattle.script_text.specs.Spelled.{IsBuiltCommand as IsReadCommand, IsBuiltStep as IsReadStep}
 use Rattle.stage_world.specs.Schedules.{IsStep, AreTwo}
-use Rattle.world.specs.Showing.{AreBuilt, IsBuiltCommand, IsBuiltStep}
+use Rattle.world.specs.Showing.{IsBuiltCommand, IsBuiltStep}
 
 -- Steps are in their ranges.
 
