@@ -44,4 +44,3 @@ IsBuiltStep (AddBatcher d) = ⊥
 IsBuiltStep (AddQueue d) = ⊥
 IsBuiltStep (AddSender d) = ⊥
 IsBuiltStep (AddReceiver d) = ⊥
-

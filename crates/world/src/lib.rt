@@ -9,10 +9,9 @@ ghost use Rattle.world.specs.Showing.{AreBuilt, IsBuiltStep};
 
 mod stages;
 
-pub use stages::Played;
-
 use abstract_log::Script;
 use cz_base::NoMemory;
+pub use stages::Played;
 use std::alloc::Global;
 
 /// Plays a script.
