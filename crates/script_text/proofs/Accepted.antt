@@ -1,6 +1,6 @@
 -- What is written is read: lines that spell a script are accepted, with just that script.
-use Rattle.std.proofs.Common.{◌≡◌, ◌<◌, ◌≤◌, ◌+◌, ◌-◌, ℕ, List, [], ◌∷◌, ◌++◌, length, length-append, refl, ap, ap₂, sym, subst, ◌∙◌, arith, Bool, true, false, cond, not, ◌&&◌, ◌||◌, nat_eq, map, append_assoc, All}
-use Rattle.std.specs.Prelude.{nat_le, nat_lt, Ok, Err, Result, Option, Some, is_none, slice_index, codes, IfOk, IsErrOf, MatchResult}
+use Rattle.std.proofs.Common.{◌≡◌, ◌<◌, ◌≤◌, ◌+◌, ◌-◌, ℕ, zero, suc, List, [], ◌∷◌, ◌++◌, length, length-append, refl, ap, ap₂, sym, subst, ◌∙◌, arith, Bool, true, false, cond, not, ◌&&◌, ◌||◌, nat_eq, map, append_assoc, All}
+use Rattle.std.specs.Prelude.{◌≢◌, nat_le, nat_lt, Ok, Err, Result, Option, Some, is_none, slice_index, codes, IfOk, IsErrOf, MatchResult}
 use Rattle.std.specs.List.{list_all, list_any, flat_map}
 use Rattle.std.specs.Fmt.{decimal}
 use Rattle.std.proofs.lemmas.Bool.Decides.{nat_tests}
@@ -11,29 +11,41 @@ use Rattle.cz_base.specs.Text.{IsName, IsBody, first_bad, is_name_byte, is_body_
 use Rattle.abstract_log.specs.declared.command.Command.{Command}
 use Rattle.abstract_log.specs.declared.command.Command.TheVariants as command
 use Rattle.abstract_log.specs.declared.command.SessionPlan.{SessionPlan}
+use Rattle.abstract_log.specs.declared.command.Workload.{Workload}
 use Rattle.abstract_log.specs.declared.script.Script.{Script}
 use Rattle.abstract_log.specs.declared.script.Sizes.{Sizes}
 use Rattle.abstract_log.specs.declared.script.Step.{Step}
+use Rattle.abstract_log.specs.declared.script.Step.TheVariants as step
 use Rattle.script_text.specs.declared.fault.Cause.{Cause}
 use Rattle.script_text.specs.declared.fault.Cause.TheVariants.{BadByte, BadSpacing, AfterEnd, OutOfPlace, NotBuilt, WrongWords, BadDatacentre, BadNumber, OutOfRange, BadName, BadBody, GivenTwice, TooMany, TooShort}
 use Rattle.script_text.specs.declared.fault.ScriptFault.{ScriptFault}
 use Rattle.script_text.specs.declared.fault.ScriptFault.TheVariants as fault
 use Rattle.script_text.specs.declared.keyword.Keyword.{Keyword}
-use Rattle.script_text.specs.declared.keyword.Keyword.TheVariants.{Chariots, Datacentres, Round, Stages, Session, Command as CommandLine, Steps, End}
-use Rattle.script_text.specs.declared.keyword.CommandWord.TheVariants.{Append, Read}
+use Rattle.script_text.specs.declared.keyword.Keyword.TheVariants.{Chariots, Datacentres, Round, Stages, Session, Command as CommandLine, Steps, Turn, End}
+use Rattle.script_text.specs.declared.keyword.CommandWord.TheVariants.{Append, Put, Read}
+use Rattle.script_text.specs.declared.keyword.TurnWord.{TurnWord}
+use Rattle.script_text.specs.declared.keyword.TurnWord.TheVariants as turn
+use Rattle.script_text.specs.declared.arguments.Argument.{Argument}
+use Rattle.script_text.specs.declared.arguments.Argument.TheVariants.{Datacentre, Other, Session as SessionNumber, Member, Second, Packet}
+use Rattle.script_text.specs.declared.arguments.Arguments.{Arguments}
 use Rattle.script_text.specs.declared.section.Section.{Section}
 use Rattle.script_text.specs.declared.section.Section.TheVariants as section
 use Rattle.script_text.specs.declared.progress.Progress.{Progress}
 use Rattle.script_text.specs.declared.progress.Stages.{Stages as StagesOf}
 use Rattle.script_text.specs.Words.{is_digit, is_number, number_of, is_datacentre, is_name, is_body, words, is_line_byte, is_empty_word}
-use Rattle.script_text.specs.Reading.{◌>>=◌, number_in, number_at, datacentre_at, body_at, names_in}
-use Rattle.script_text.specs.Keywords.{text_of, keyword_of, stands, is_built, least_words, most_words, is_stages, is_sessions, is_ended}
-use Rattle.script_text.specs.Meaning.{start, chariots_line, datacentres_line, round_line, sizes_at, stages_line, session_line, with_command, append_line, read_line, meaning, keyword_after, words_after, is_passed_over, line_after, is_given, script_said, told, next_number, script_from, script_of}
-use Rattle.abstract_log.specs.Fits.{FitsCommand, FitsPlan, commands_of}
-use Rattle.script_text.specs.Spelled.{letter, command_words, plan_lines, stages_words, first_words, datacentres_words, round_words, before_steps, steps_words, end_words, said_words, IsBuiltSizes, IsBuiltCommand, AreGivenOnce, IsBuiltStages, IsWritten}
+use Rattle.script_text.specs.Reading.{◌>>=◌, number_in, number_at, number_below_at, datacentre_at, other_datacentre_at, body_at, name_at, names_in}
+use Rattle.script_text.specs.Arguments.{no_arguments, argument_at, arguments_at, step_said}
+use Rattle.script_text.specs.Keywords.{text_of, turn_text, keyword_of, stands, is_built, turn_is_built, turn_arguments, least_words, most_words, is_stages, is_sessions, is_ended}
+use Rattle.script_text.specs.Meaning.{start, chariots_line, datacentres_line, round_line, sizes_at, stages_line, session_line, with_command, append_line, put_line, read_line, with_step, turn_line, meaning, keyword_after, words_after, is_passed_over, line_after, is_given, script_said, told, next_number, script_from, script_of}
+use Rattle.abstract_log.specs.Fits.{IsSize, FitsCommand, FitsPlan, commands_of}
+use Rattle.script_text.specs.Spelled.{letter, command_words, plan_lines, stages_words, first_words, datacentres_words, round_words, before_steps, turn_words, steps_words, end_words, said_words, IsBuiltSizes, IsBuiltCommand, IsBuiltStep, AreGivenOnce, IsBuiltStages, IsWritten}
 use Rattle.script_text.proofs.MeaningLemmas.{with_command-last}
-use Rattle.script_text.proofs.Sound.{or_false, neither_true, eq-sym, is_given-push, IsBuiltPlan}
-use Rattle.script_text.proofs.Laid.{own, IsLine}
+use Rattle.script_text.specs.Steps.{FitsStep}
+use Rattle.script_text.proofs.Going.{okay, or_false}
+use Rattle.script_text.proofs.Spelling.{own}
+use Rattle.script_text.proofs.TurnLemmas.{argument_word, IsArgument, with_argument, Write, load_of, and_step}
+use Rattle.script_text.proofs.Sound.{neither_true, eq-sym, is_given-push, IsBuiltPlan}
+use Rattle.script_text.proofs.Laid.{IsLine}
 
 -- Tests that pass.
 
@@ -44,6 +56,10 @@ both_true false b first second = cc
 second_true : (a b : Bool) → b ≡ true → (a || b) ≡ true
 second_true true b second = refl
 second_true false b second = second
+
+first_true : (a b : Bool) → a ≡ true → (a || b) ≡ true
+first_true true b first = refl
+first_true false b first = cc
 
 taken : {A : Type 0} (test : Bool) (x y : A) → test ≡ true → cond test x y ≡ x
 taken true x y h = refl
@@ -76,12 +92,32 @@ number_reads least most n word more form value low high =
     ∙ in_range ∙ ap (λ (m : ℕ). Ok m) value in
     ap (λ (r : Result ℕ Cause). r >>= λ m. Ok (m, more)) read
 
+short_form : (word : List ℕ) → list_all is_digit word ≡ true → 0 < length word → length word ≤ 1 → is_number word ≡ true
+short_form word digits some short =
+    let least : nat_le 1 (length word) ≡ true = grind (arith, nat_tests) in
+    let most : nat_le (length word) 10 ≡ true = grind (arith, nat_tests) in
+    let one : nat_le (length word) 1 ≡ true = grind (arith, nat_tests) in
+    both_true (list_all is_digit word && nat_le 1 (length word) && nat_le (length word) 10) (nat_le (length word) 1 || not (nat_eq (slice_index word 0) 48))
+    (both_true (list_all is_digit word && nat_le 1 (length word)) (nat_le (length word) 10) (both_true (list_all is_digit word) (nat_le 1 (length word)) digits least) most)
+    (first_true (nat_le (length word) 1) (not (nat_eq (slice_index word 0) 48)) one)
+
+decimal_form : (n : ℕ) → n < 4294967296 → is_number (decimal n) ≡ true
+decimal_form zero small = short_form (decimal zero) (digits_decimal own zero (omega arith)) (decimal_nonempty zero (omega arith)) (length-decimal-le 1 zero (omega arith) (omega arith) (omega arith))
+decimal_form (suc n) small =
+    number_form (decimal (suc n)) (digits_decimal own (suc n) (omega (arith, small))) (decimal_nonempty (suc n) (omega (arith, small)))
+    (length-decimal-le 10 (suc n) (omega arith) (omega (arith, small)) (omega (arith, small))) (first_decimal (suc n) (omega arith) (omega (arith, small)))
+
 -- a number of a range is read from what is written for it
-decimal_reads : (least most n : ℕ) (more : List (List ℕ)) → 1 ≤ least → least ≤ n → n ≤ most → most < 4294967296 → number_at least most (decimal n ∷ more) ≡ Ok (n, more)
-decimal_reads least most n more some low high small =
-    number_reads least most n (decimal n) more
-    (number_form (decimal n) (digits_decimal own n (omega arith)) (decimal_nonempty n (omega arith)) (length-decimal-le 10 n (omega arith) (omega arith) (omega arith)) (first_decimal n (omega arith) (omega arith)))
-    (digits_value-decimal own n (omega arith)) low high
+decimal_reads : (least most n : ℕ) (more : List (List ℕ)) → least ≤ n → n ≤ most → most < 4294967296 → number_at least most (decimal n ∷ more) ≡ Ok (n, more)
+decimal_reads least most n more low high small =
+    number_reads least most n (decimal n) more (decimal_form n (omega (arith, high, small))) (digits_value-decimal own n (omega (arith, high, small))) low high
+
+-- and a number below a limit
+below_reads : (limit n : ℕ) (more : List (List ℕ)) → n < limit → limit ≤ 64 → number_below_at limit (decimal n ∷ more) ≡ Ok (n, more)
+unfolding number_below_at
+below_reads limit n more below few =
+    let test : nat_lt n limit ≡ true = grind (arith, nat_tests) in
+    rw (decimal_reads 0 4294967295 n more (omega arith) (omega (arith, below, few)) (omega arith)) (taken (nat_lt n limit) (Ok (n, more)) (Err OutOfRange) test)
 
 letter_form : (dcs dc : ℕ) → dc < dcs → dcs ≤ 8 → is_datacentre dcs (letter dc) ≡ true
 letter_form dcs dc within few =
@@ -100,6 +136,14 @@ letter_value dc = omega arith
 datacentre_reads : (dcs dc : ℕ) (more : List (List ℕ)) → dc < dcs → dcs ≤ 8 → datacentre_at dcs (letter dc ∷ more) ≡ Ok (dc, more)
 datacentre_reads dcs dc more within few = letter_reads dcs (letter dc) more (letter_form dcs dc within few) ∙ ap (λ (k : ℕ). Ok (k, more)) (letter_value dc)
 
+differ : (a b : ℕ) → b ≢ a → nat_eq a b ≡ false
+differ a b apart = grind (arith, nat_tests)
+
+other_reads : (dcs first dc : ℕ) (more : List (List ℕ)) → dc < dcs → dcs ≤ 8 → first ≢ dc → other_datacentre_at dcs first (letter dc ∷ more) ≡ Ok (dc, more)
+unfolding other_datacentre_at
+other_reads dcs first dc more within few apart =
+    rw (datacentre_reads dcs dc more within few) (passed (nat_eq dc first) (Err BadDatacentre) (Ok (dc, more)) (differ dc first apart))
+
 body_form : (body : List ℕ) → IsBody body → is_body (61 ∷ body) ≡ true
 body_form body fits =
     let short : nat_le (length body) 1024 ≡ true = grind (arith, nat_tests, fits.short) in
@@ -116,6 +160,11 @@ name_form word fits =
     let most : nat_le (length word) 64 ≡ true = grind (arith, nat_tests, fits.short) in
     both_true (nat_le 1 (length word) && nat_le (length word) 64) (is_none (first_bad is_name_byte word))
     (both_true (nat_le 1 (length word)) (nat_le (length word) 64) least most) (ap (λ (o : Option ℕ). is_none o) fits.allowed)
+
+name_reads : (word : List ℕ) (more : List (List ℕ)) → IsName word → name_at (word ∷ more) ≡ Ok (word, more)
+unfolding name_at
+name_reads word more fits =
+    ap (λ (r : Result (List ℕ) Cause). r >>= λ name. Ok (name, more)) (taken (is_name word) (Ok word) (Err BadName) (name_form word fits))
 
 names_form : (tags : List (List ℕ)) → All IsName tags → list_all is_name tags ≡ true
 names_form [] all = refl
@@ -174,6 +223,10 @@ append_word : keyword_of (codes "append") ≡ Some (CommandLine Append)
 unfolding keyword_of text_of
 append_word = refl
 
+put_word : keyword_of (codes "put") ≡ Some (CommandLine Put)
+unfolding keyword_of text_of
+put_word = refl
+
 read_word : keyword_of (codes "read") ≡ Some (CommandLine Read)
 unfolding keyword_of text_of
 read_word = refl
@@ -198,7 +251,7 @@ said_at here dcs round stages sessions commands = record { section = here; dcs =
 
 chariots_means : (said : Progress) → chariots_line said (decimal 1 ∷ []) ≡ Ok (record said { section = section.Datacentres })
 unfolding chariots_line
-chariots_means said = rw (decimal_reads 1 1 1 [] (omega arith) (omega arith) (omega arith) (omega arith)) refl
+chariots_means said = rw (decimal_reads 1 1 1 [] (omega arith) (omega arith) (omega arith)) refl
 
 chariots_takes : Takes start first_words (said_at section.Datacentres 0 0 [] [] 0)
 chariots_takes = record {
@@ -207,21 +260,21 @@ chariots_takes = record {
   means = word_reads start (codes "chariots") (decimal 1 ∷ []) Chariots chariots_word refl refl refl ∙ chariots_means start;
 }
 
-datacentres_means : (said : Progress) (dcs : ℕ) → dcs ≡ 1 → datacentres_line said (decimal dcs ∷ []) ≡ Ok (record said { dcs = dcs; section = section.Round })
+datacentres_means : (said : Progress) (dcs : ℕ) → 1 ≤ dcs → dcs ≤ 8 → datacentres_line said (decimal dcs ∷ []) ≡ Ok (record said { dcs = dcs; section = section.Round })
 unfolding datacentres_line
-datacentres_means said dcs one = rw (decimal_reads 1 1 dcs [] (omega arith) (omega arith) (omega arith) (omega arith)) refl
+datacentres_means said dcs low high = rw (decimal_reads 1 8 dcs [] low high (omega arith)) refl
 
-datacentres_takes : (dcs : ℕ) → dcs ≡ 1 → Takes (said_at section.Datacentres 0 0 [] [] 0) (datacentres_words dcs) (said_at section.Round dcs 0 [] [] 0)
-datacentres_takes dcs one = record {
-  full = full (codes "datacentres") (decimal dcs ∷ []) (omega arith) (full_decimal dcs [] (omega arith) refl);
+datacentres_takes : (dcs : ℕ) → 1 ≤ dcs → dcs ≤ 8 → Takes (said_at section.Datacentres 0 0 [] [] 0) (datacentres_words dcs) (said_at section.Round dcs 0 [] [] 0)
+datacentres_takes dcs low high = record {
+  full = full (codes "datacentres") (decimal dcs ∷ []) (omega arith) (full_decimal dcs [] (omega (arith, high)) refl);
   going = refl;
   means = word_reads (said_at section.Datacentres 0 0 [] [] 0) (codes "datacentres") (decimal dcs ∷ []) Datacentres datacentres_word refl refl refl
-      ∙ datacentres_means (said_at section.Datacentres 0 0 [] [] 0) dcs one;
+      ∙ datacentres_means (said_at section.Datacentres 0 0 [] [] 0) dcs low high;
 }
 
 round_means : (said : Progress) (round : ℕ) → 1 ≤ round → round ≤ 1024 → round_line said (decimal round ∷ []) ≡ Ok (record said { round = round; section = section.Stages })
 unfolding round_line
-round_means said round low high = rw (decimal_reads 1 1024 round [] (omega arith) low high (omega arith)) refl
+round_means said round low high = rw (decimal_reads 1 1024 round [] low high (omega arith)) refl
 
 round_takes : (dcs round : ℕ) → 1 ≤ round → round ≤ 1024 → Takes (said_at section.Round dcs 0 [] [] 0) (round_words round) (said_at section.Stages dcs round [] [] 0)
 round_takes dcs round low high = record {
@@ -231,7 +284,10 @@ round_takes dcs round low high = record {
 }
 
 one_reads : (n : ℕ) (more : List (List ℕ)) → n ≡ 1 → number_at 1 1 (decimal n ∷ more) ≡ Ok (n, more)
-one_reads n more one = decimal_reads 1 1 n more (omega arith) (omega arith) (omega arith) (omega arith)
+one_reads n more one = decimal_reads 1 1 n more (omega arith) (omega arith) (omega arith)
+
+size_reads : (n : ℕ) (more : List (List ℕ)) → IsSize n → number_at 1 16 (decimal n ∷ more) ≡ Ok (n, more)
+size_reads n more size = decimal_reads 1 16 n more size.0 size.1 (omega arith)
 
 abbrev sizes_words : Sizes → List (List ℕ)
 sizes_words s = decimal s.batchers ∷ decimal s.filters ∷ decimal s.queues ∷ decimal s.maintainers ∷ decimal s.indexers ∷ decimal s.senders ∷ decimal s.receivers ∷ []
@@ -240,24 +296,24 @@ sizes_read : (s : Sizes) → IsBuiltSizes s → sizes_at (sizes_words s) ≡ Ok 
 unfolding sizes_at
 sizes_read s built =
     rw (
-      one_reads s.batchers (decimal s.filters ∷ decimal s.queues ∷ decimal s.maintainers ∷ decimal s.indexers ∷ decimal s.senders ∷ decimal s.receivers ∷ []) built.batchers,
-      one_reads s.filters (decimal s.queues ∷ decimal s.maintainers ∷ decimal s.indexers ∷ decimal s.senders ∷ decimal s.receivers ∷ []) built.filters,
-      one_reads s.queues (decimal s.maintainers ∷ decimal s.indexers ∷ decimal s.senders ∷ decimal s.receivers ∷ []) built.queues,
-      decimal_reads 1 16 s.maintainers (decimal s.indexers ∷ decimal s.senders ∷ decimal s.receivers ∷ []) (omega arith) built.maintainers.0 built.maintainers.1 (omega arith),
+      size_reads s.batchers (decimal s.filters ∷ decimal s.queues ∷ decimal s.maintainers ∷ decimal s.indexers ∷ decimal s.senders ∷ decimal s.receivers ∷ []) built.batchers,
+      size_reads s.filters (decimal s.queues ∷ decimal s.maintainers ∷ decimal s.indexers ∷ decimal s.senders ∷ decimal s.receivers ∷ []) built.filters,
+      size_reads s.queues (decimal s.maintainers ∷ decimal s.indexers ∷ decimal s.senders ∷ decimal s.receivers ∷ []) built.queues,
+      size_reads s.maintainers (decimal s.indexers ∷ decimal s.senders ∷ decimal s.receivers ∷ []) built.maintainers,
       one_reads s.indexers (decimal s.senders ∷ decimal s.receivers ∷ []) built.indexers,
-      one_reads s.senders (decimal s.receivers ∷ []) built.senders,
-      one_reads s.receivers [] built.receivers,
+      size_reads s.senders (decimal s.receivers ∷ []) built.senders,
+      size_reads s.receivers [] built.receivers,
     ) refl
 
 full_sizes : (s : Sizes) → IsBuiltSizes s → list_any is_empty_word (sizes_words s) ≡ false
 full_sizes s built =
-    full_decimal s.batchers (decimal s.filters ∷ decimal s.queues ∷ decimal s.maintainers ∷ decimal s.indexers ∷ decimal s.senders ∷ decimal s.receivers ∷ []) (omega (arith, built.batchers))
-    (full_decimal s.filters (decimal s.queues ∷ decimal s.maintainers ∷ decimal s.indexers ∷ decimal s.senders ∷ decimal s.receivers ∷ []) (omega (arith, built.filters))
-    (full_decimal s.queues (decimal s.maintainers ∷ decimal s.indexers ∷ decimal s.senders ∷ decimal s.receivers ∷ []) (omega (arith, built.queues))
+    full_decimal s.batchers (decimal s.filters ∷ decimal s.queues ∷ decimal s.maintainers ∷ decimal s.indexers ∷ decimal s.senders ∷ decimal s.receivers ∷ []) (omega (arith, built.batchers.1))
+    (full_decimal s.filters (decimal s.queues ∷ decimal s.maintainers ∷ decimal s.indexers ∷ decimal s.senders ∷ decimal s.receivers ∷ []) (omega (arith, built.filters.1))
+    (full_decimal s.queues (decimal s.maintainers ∷ decimal s.indexers ∷ decimal s.senders ∷ decimal s.receivers ∷ []) (omega (arith, built.queues.1))
     (full_decimal s.maintainers (decimal s.indexers ∷ decimal s.senders ∷ decimal s.receivers ∷ []) (omega (arith, built.maintainers.1))
     (full_decimal s.indexers (decimal s.senders ∷ decimal s.receivers ∷ []) (omega (arith, built.indexers))
-    (full_decimal s.senders (decimal s.receivers ∷ []) (omega (arith, built.senders))
-    (full_decimal s.receivers [] (omega (arith, built.receivers)) refl))))))
+    (full_decimal s.senders (decimal s.receivers ∷ []) (omega (arith, built.senders.1))
+    (full_decimal s.receivers [] (omega (arith, built.receivers.1)) refl))))))
 
 stages_means : (said : Progress) (given : StagesOf) → given.dc < said.dcs → said.dcs ≤ 8 → IsBuiltSizes given.sizes → is_given said.stages given.dc ≡ false
     → stages_line said (letter given.dc ∷ sizes_words given.sizes) ≡ Ok (record said { stages = said.stages ++ given ∷ [] })
@@ -310,7 +366,11 @@ append_means said body tags fits named = rw (body_reads body tags fits, names_re
 
 read_means : (said : Progress) (lid : ℕ) → 1 ≤ lid → lid < 4294967296 → read_line said (decimal lid ∷ []) ≡ with_command said (command.Read lid)
 unfolding read_line
-read_means said lid low high = rw (decimal_reads 1 4294967295 lid [] (omega arith) low (omega arith) (omega arith)) refl
+read_means said lid low high = rw (decimal_reads 1 4294967295 lid [] low (omega arith) (omega arith)) refl
+
+put_means : (said : Progress) (key body : List ℕ) → IsName key → IsBody body → put_line said (key ∷ (61 ∷ body) ∷ []) ≡ with_command said (command.Put key body)
+unfolding put_line
+put_means said key body named fits = rw (name_reads key ((61 ∷ body) ∷ []) named, body_reads body [] fits) refl
 
 -- a line of a command says the command
 pub record Says (said : Progress) (c : Command) : Type 0 where
@@ -326,7 +386,11 @@ command_says said (command.Append tags body) here fits built =
       means = word_reads said (codes "append") ((61 ∷ body) ∷ tags) (CommandLine Append) append_word (ap (λ (s : Section). is_sessions s) here) refl (neither_true (nat_lt (length ((61 ∷ body) ∷ tags)) 1) (nat_lt 9 (length ((61 ∷ body) ∷ tags))) least most)
           ∙ append_means said body tags fits.1.1 fits.1.0;
     }
-command_says said (command.Put key body) here fits built = absurd built
+command_says said (command.Put key body) here fits built = record {
+  full = full (codes "put") (key ∷ (61 ∷ body) ∷ []) (omega arith) (full key ((61 ∷ body) ∷ []) (omega (arith, fits.0.not_empty)) (full (61 ∷ body) [] (omega arith) refl));
+  means = word_reads said (codes "put") (key ∷ (61 ∷ body) ∷ []) (CommandLine Put) put_word (ap (λ (s : Section). is_sessions s) here) refl refl
+      ∙ put_means said key body fits.0 fits.1;
+}
 command_says said (command.Get key) here fits built = absurd built
 command_says said (command.Tx keys) here fits built = absurd built
 command_says said (command.Read lid) here fits built = record {
@@ -376,58 +440,360 @@ commands_lead dcs round stages front home done count (c ∷ more) all total fits
   ),
 )
 
-abbrev closing : List (List (List ℕ))
-closing = steps_words ∷ end_words ∷ []
+-- The step lines.
+
+-- one argument is read from what is written for it
+argument_reads : (dcs sessions : ℕ) (given : Arguments) (kind : Argument) (n : ℕ) (more : List (List ℕ)) → dcs ≤ 8 → sessions ≤ 64 → IsArgument dcs sessions given kind n
+    → argument_at dcs sessions given kind (argument_word kind n ∷ more) ≡ Ok (with_argument given kind n, more)
+unfolding argument_at
+argument_reads dcs sessions given Datacentre n more few room range = rw (datacentre_reads dcs n more range few) refl
+argument_reads dcs sessions given Other n more few room range = rw (other_reads dcs given.dc n more range.0 few range.1) refl
+argument_reads dcs sessions given SessionNumber n more few room range = rw (below_reads sessions n more range room) refl
+argument_reads dcs sessions given Member n more few room range = rw (below_reads 16 n more range (omega arith)) refl
+argument_reads dcs sessions given Second n more few room range = rw (below_reads 16 n more range (omega arith)) refl
+argument_reads dcs sessions given Packet n more few room range = rw (decimal_reads 1 64 n more range.0 range.1 (omega arith)) refl
+
+arguments_read : (dcs sessions : ℕ) (given : Arguments) (kinds : List Argument) (left : List (List ℕ)) (after : Arguments) → dcs ≤ 8 → sessions ≤ 64 → Write dcs sessions given kinds left after
+    → arguments_at dcs sessions given kinds left ≡ okay after
+arguments_read dcs sessions given [] left after few room w = ap (λ (g : Arguments). okay g) w.1
+arguments_read dcs sessions given (kind ∷ kinds) left after few room w =
+    ap (λ (ws : List (List ℕ)). arguments_at dcs sessions given (kind ∷ kinds) ws) w.1.1.0
+    ∙ ap (λ (r : Result (Arguments × List (List ℕ)) Cause). r >>= λ read. arguments_at dcs sessions read.0 kinds read.1) (argument_reads dcs sessions given kind w.0 w.1.0 few room w.1.1.1.0)
+    ∙ arguments_read dcs sessions (with_argument given kind w.0) kinds w.1.0 after few room w.1.1.1.1
+
+argument_full : (dcs sessions : ℕ) (given : Arguments) (kind : Argument) (n : ℕ) → sessions ≤ 64 → IsArgument dcs sessions given kind n → 0 < length (argument_word kind n)
+argument_full dcs sessions given Datacentre n room range = omega arith
+argument_full dcs sessions given Other n room range = omega arith
+argument_full dcs sessions given SessionNumber n room range = decimal_nonempty n (omega (arith, range, room))
+argument_full dcs sessions given Member n room range = decimal_nonempty n (omega (arith, range))
+argument_full dcs sessions given Second n room range = decimal_nonempty n (omega (arith, range))
+argument_full dcs sessions given Packet n room range = decimal_nonempty n (omega (arith, range.1))
+
+arguments_full : (dcs sessions : ℕ) (given : Arguments) (kinds : List Argument) (left : List (List ℕ)) (after : Arguments) → sessions ≤ 64 → Write dcs sessions given kinds left after → list_any is_empty_word left ≡ false
+arguments_full dcs sessions given [] left after room w = ap (λ (ws : List (List ℕ)). list_any is_empty_word ws) w.0
+arguments_full dcs sessions given (kind ∷ kinds) left after room w =
+    ap (λ (ws : List (List ℕ)). list_any is_empty_word ws) w.1.1.0
+    ∙ full (argument_word kind w.0) w.1.0 (argument_full dcs sessions given kind w.0 room w.1.1.1.0) (arguments_full dcs sessions (with_argument given kind w.0) kinds w.1.0 after room w.1.1.1.1)
+
+client_word : keyword_of (codes "client") ≡ Some (Turn turn.Client)
+unfolding keyword_of text_of
+client_word = refl
+
+flush_word : keyword_of (codes "flush") ≡ Some (Turn turn.Flush)
+unfolding keyword_of text_of
+flush_word = refl
+
+pass_word : keyword_of (codes "pass") ≡ Some (Turn turn.Pass)
+unfolding keyword_of text_of
+pass_word = refl
+
+stamp_word : keyword_of (codes "stamp") ≡ Some (Turn turn.Stamp)
+unfolding keyword_of text_of
+stamp_word = refl
+
+token_word : keyword_of (codes "token") ≡ Some (Turn turn.Token)
+unfolding keyword_of text_of
+token_word = refl
+
+place_word : keyword_of (codes "place") ≡ Some (Turn turn.Place)
+unfolding keyword_of text_of
+place_word = refl
+
+gossip_word : keyword_of (codes "gossip") ≡ Some (Turn turn.Gossip)
+unfolding keyword_of text_of
+gossip_word = refl
+
+learn_word : keyword_of (codes "learn") ≡ Some (Turn turn.Learn)
+unfolding keyword_of text_of
+learn_word = refl
+
+send_word : keyword_of (codes "send") ≡ Some (Turn turn.Send)
+unfolding keyword_of text_of
+send_word = refl
+
+deliver_word : keyword_of (codes "deliver") ≡ Some (Turn turn.Deliver)
+unfolding keyword_of text_of
+deliver_word = refl
+
+lose_word : keyword_of (codes "lose") ≡ Some (Turn turn.Lose)
+unfolding keyword_of text_of
+lose_word = refl
+
+copy_word : keyword_of (codes "copy") ≡ Some (Turn turn.Copy)
+unfolding keyword_of text_of
+copy_word = refl
+
+-- what is written for a step: the word and what is given with it
+pub record Comes (load : Workload) (t : Step) : Type 0 where
+  pub word : TurnWord
+  pub left : List (List ℕ)
+  pub given : Arguments
+  pub keyword : keyword_of (turn_text word) ≡ Some (Turn word)
+  pub words : turn_words t ≡ turn_text word ∷ left
+  pub some : 0 < length (turn_text word)
+  pub many : length left ≡ length (turn_arguments word)
+  pub built : turn_is_built word ≡ true
+  pub writes : Write load.dcs (length load.sessions) no_arguments (turn_arguments word) left given
+  pub says : step_said word given ≡ okay t
+
+step_comes : (load : Workload) (t : Step) → FitsStep load t → IsBuiltStep t → Comes load t
+step_comes load (step.Client s) fits built = record {
+  word = turn.Client;
+  left = decimal s ∷ [];
+  given = record no_arguments { session = s };
+  keyword = client_word;
+  words = refl;
+  some = omega arith;
+  many = refl;
+  built = refl;
+  writes = (s, ([], (refl, (fits, (refl, refl)))));
+  says = refl;
+}
+step_comes load (step.Flush d b) fits built = record {
+  word = turn.Flush;
+  left = letter d ∷ decimal b ∷ [];
+  given = record no_arguments { dc = d; member = b };
+  keyword = flush_word;
+  words = refl;
+  some = omega arith;
+  many = refl;
+  built = refl;
+  writes = (d, (decimal b ∷ [], (refl, (fits.0, (b, ([], (refl, (fits.1, (refl, refl)))))))));
+  says = refl;
+}
+step_comes load (step.Pass d f q) fits built = record {
+  word = turn.Pass;
+  left = letter d ∷ decimal f ∷ decimal q ∷ [];
+  given = record no_arguments { dc = d; member = f; second = q };
+  keyword = pass_word;
+  words = refl;
+  some = omega arith;
+  many = refl;
+  built = refl;
+  writes = (d, (decimal f ∷ decimal q ∷ [], (refl, (fits.0, (f, (decimal q ∷ [], (refl, (fits.1.0, (q, ([], (refl, (fits.1.1, (refl, refl)))))))))))));
+  says = refl;
+}
+step_comes load (step.Stamp d q) fits built = record {
+  word = turn.Stamp;
+  left = letter d ∷ decimal q ∷ [];
+  given = record no_arguments { dc = d; member = q };
+  keyword = stamp_word;
+  words = refl;
+  some = omega arith;
+  many = refl;
+  built = refl;
+  writes = (d, (decimal q ∷ [], (refl, (fits.0, (q, ([], (refl, (fits.1, (refl, refl)))))))));
+  says = refl;
+}
+step_comes load (step.Token d) fits built = record {
+  word = turn.Token;
+  left = letter d ∷ [];
+  given = record no_arguments { dc = d };
+  keyword = token_word;
+  words = refl;
+  some = omega arith;
+  many = refl;
+  built = refl;
+  writes = (d, ([], (refl, (fits, (refl, refl)))));
+  says = refl;
+}
+step_comes load (step.Place d q m) fits built = record {
+  word = turn.Place;
+  left = letter d ∷ decimal q ∷ decimal m ∷ [];
+  given = record no_arguments { dc = d; member = q; second = m };
+  keyword = place_word;
+  words = refl;
+  some = omega arith;
+  many = refl;
+  built = refl;
+  writes = (d, (decimal q ∷ decimal m ∷ [], (refl, (fits.0, (q, (decimal m ∷ [], (refl, (fits.1.0, (m, ([], (refl, (fits.1.1, (refl, refl)))))))))))));
+  says = refl;
+}
+step_comes load (step.Gossip d m k) fits built = record {
+  word = turn.Gossip;
+  left = letter d ∷ decimal m ∷ decimal k ∷ [];
+  given = record no_arguments { dc = d; member = m; second = k };
+  keyword = gossip_word;
+  words = refl;
+  some = omega arith;
+  many = refl;
+  built = refl;
+  writes = (d, (decimal m ∷ decimal k ∷ [], (refl, (fits.0, (m, (decimal k ∷ [], (refl, (fits.1.0, (k, ([], (refl, (fits.1.1, (refl, refl)))))))))))));
+  says = refl;
+}
+step_comes load (step.Post d m i) fits built = absurd built
+step_comes load (step.Learn d) fits built = record {
+  word = turn.Learn;
+  left = letter d ∷ [];
+  given = record no_arguments { dc = d };
+  keyword = learn_word;
+  words = refl;
+  some = omega arith;
+  many = refl;
+  built = refl;
+  writes = (d, ([], (refl, (fits, (refl, refl)))));
+  says = refl;
+}
+step_comes load (step.Send d k e) fits built = record {
+  word = turn.Send;
+  left = letter d ∷ decimal k ∷ letter e ∷ [];
+  given = record no_arguments { dc = d; member = k; other = e };
+  keyword = send_word;
+  words = refl;
+  some = omega arith;
+  many = refl;
+  built = refl;
+  writes = (d, (decimal k ∷ letter e ∷ [], (refl, (fits.0.first, (k, (letter e ∷ [], (refl, (fits.1, (e, ([], (refl, ((fits.0.second, fits.0.apart), (refl, refl)))))))))))));
+  says = refl;
+}
+step_comes load (step.Deliver d e k r) fits built = record {
+  word = turn.Deliver;
+  left = letter d ∷ letter e ∷ decimal k ∷ decimal r ∷ [];
+  given = record no_arguments { dc = d; other = e; packet = k; member = r };
+  keyword = deliver_word;
+  words = refl;
+  some = omega arith;
+  many = refl;
+  built = refl;
+  writes = (d, (letter e ∷ decimal k ∷ decimal r ∷ [], (refl, (fits.0.first, (e, (decimal k ∷ decimal r ∷ [], (refl, ((fits.0.second, fits.0.apart), (k, (decimal r ∷ [], (refl, (fits.1.0, (r, ([], (refl, (fits.1.1, (refl, refl)))))))))))))))));
+  says = refl;
+}
+step_comes load (step.Lose d e k) fits built = record {
+  word = turn.Lose;
+  left = letter d ∷ letter e ∷ decimal k ∷ [];
+  given = record no_arguments { dc = d; other = e; packet = k };
+  keyword = lose_word;
+  words = refl;
+  some = omega arith;
+  many = refl;
+  built = refl;
+  writes = (d, (letter e ∷ decimal k ∷ [], (refl, (fits.0.first, (e, (decimal k ∷ [], (refl, ((fits.0.second, fits.0.apart), (k, ([], (refl, (fits.1, (refl, refl)))))))))))));
+  says = refl;
+}
+step_comes load (step.Copy d e k) fits built = record {
+  word = turn.Copy;
+  left = letter d ∷ letter e ∷ decimal k ∷ [];
+  given = record no_arguments { dc = d; other = e; packet = k };
+  keyword = copy_word;
+  words = refl;
+  some = omega arith;
+  many = refl;
+  built = refl;
+  writes = (d, (letter e ∷ decimal k ∷ [], (refl, (fits.0.first, (e, (decimal k ∷ [], (refl, ((fits.0.second, fits.0.apart), (k, ([], (refl, (fits.1, (refl, refl)))))))))))));
+  says = refl;
+}
+step_comes load (step.Floor d p) fits built = absurd built
+step_comes load (step.Collect d m) fits built = absurd built
+step_comes load (step.Announce d h t) fits built = absurd built
+step_comes load (step.Mark d) fits built = absurd built
+step_comes load (step.AddMaintainer d p) fits built = absurd built
+step_comes load (step.AddBatcher d) fits built = absurd built
+step_comes load (step.AddQueue d) fits built = absurd built
+step_comes load (step.AddSender d) fits built = absurd built
+step_comes load (step.AddReceiver d) fits built = absurd built
+
+-- what has been said when some steps have been
+abbrev pub stepping : ℕ → ℕ → List StagesOf → List SessionPlan → ℕ → List Step → Progress
+stepping dcs round stages plans count steps = record { section = section.Steps; dcs = dcs; round = round; stages = stages; sessions = plans; commands = count; steps = steps }
+
+turn_means : (said : Progress) (word : TurnWord) (left : List (List ℕ)) (given : Arguments) (t : Step) → said.dcs ≤ 8 → length said.sessions ≤ 64 → length said.steps < 65536
+    → Write said.dcs (length said.sessions) no_arguments (turn_arguments word) left given → step_said word given ≡ okay t → turn_line said word left ≡ okay (and_step said t)
+unfolding turn_line with_step
+turn_means said word left given t few room short writes says =
+    let test : nat_le 65536 (length said.steps) ≡ false = grind (arith, nat_tests) in
+    rw (arguments_read said.dcs (length said.sessions) no_arguments (turn_arguments word) left given few room writes, says)
+    (passed (nat_le 65536 (length said.steps)) (Err TooMany) (okay (and_step said t)) test)
+
+as_many : (n m : ℕ) → n ≡ m → (nat_lt n m || nat_lt m n) ≡ false
+as_many n m same =
+    let less : nat_lt n m ≡ false = grind (arith, nat_tests) in
+    let more : nat_lt m n ≡ false = grind (arith, nat_tests) in
+    neither_true (nat_lt n m) (nat_lt m n) less more
+
+turn_takes_line : (dcs round : ℕ) (stages : List StagesOf) (plans : List SessionPlan) (count : ℕ) (done : List Step) (t : Step) → dcs ≤ 8 → length plans ≤ 64 → length done < 65536
+    → FitsStep (record { dcs = dcs; sessions = plans }) t → IsBuiltStep t
+    → Takes (stepping dcs round stages plans count done) (turn_words t) (stepping dcs round stages plans count (done ++ t ∷ []))
+turn_takes_line dcs round stages plans count done t few room short fits built =
+    let said : Progress = stepping dcs round stages plans count done in
+    let comes = step_comes (load_of said) t fits built in
+    let made : Takes said (turn_text comes.word ∷ comes.left) (and_step said t) = record {
+      full = full (turn_text comes.word) comes.left comes.some (arguments_full dcs (length plans) no_arguments (turn_arguments comes.word) comes.left comes.given room comes.writes);
+      going = refl;
+      means = word_reads said (turn_text comes.word) comes.left (Turn comes.word) comes.keyword refl comes.built (as_many (length comes.left) (length (turn_arguments comes.word)) comes.many)
+          ∙ turn_means said comes.word comes.left comes.given t few room short comes.writes comes.says;
+    } in
+    subst (λ (ws : List (List ℕ)). Takes said ws (and_step said t)) (sym comes.words) made
+
+-- the lines from `steps` on
+abbrev closing : List Step → List (List (List ℕ))
+closing steps = steps_words ∷ (map turn_words steps ++ end_words ∷ [])
+
+-- what has been said at the end
+abbrev pub ended_at : ℕ → ℕ → List StagesOf → List SessionPlan → ℕ → List Step → Progress
+ended_at dcs round stages plans count steps = record { section = section.Ended; dcs = dcs; round = round; stages = stages; sessions = plans; commands = count; steps = steps }
 
 steps_takes : (here : Section) (dcs round : ℕ) (stages : List StagesOf) (plans : List SessionPlan) (count : ℕ) → (is_stages here || is_sessions here) ≡ true
-    → Takes (said_at here dcs round stages plans count) steps_words (said_at section.Steps dcs round stages plans count)
+    → Takes (said_at here dcs round stages plans count) steps_words (stepping dcs round stages plans count [])
 steps_takes here dcs round stages plans count place = record {
   full = refl;
   going = not_ended here place;
   means = word_reads (said_at here dcs round stages plans count) (codes "steps") [] Steps steps_word place refl refl;
 }
 
-end_takes : (dcs round : ℕ) (stages : List StagesOf) (plans : List SessionPlan) (count : ℕ)
-    → Takes (said_at section.Steps dcs round stages plans count) end_words (said_at section.Ended dcs round stages plans count)
-end_takes dcs round stages plans count = record {
+end_takes : (dcs round : ℕ) (stages : List StagesOf) (plans : List SessionPlan) (count : ℕ) (steps : List Step)
+    → Takes (stepping dcs round stages plans count steps) end_words (ended_at dcs round stages plans count steps)
+end_takes dcs round stages plans count steps = record {
   full = refl;
   going = refl;
-  means = word_reads (said_at section.Steps dcs round stages plans count) (codes "end") [] End end_word refl refl refl;
+  means = word_reads (stepping dcs round stages plans count steps) (codes "end") [] End end_word refl refl refl;
 }
 
-plans_lead : (here : Section) (dcs round : ℕ) (stages : List StagesOf) (front : List SessionPlan) (count : ℕ) (left all : List SessionPlan) (total : ℕ)
-    → (is_stages here || is_sessions here) ≡ true → dcs ≤ 8 → All (FitsPlan dcs) left → All IsBuiltPlan left → length front + length left ≤ 64 → total ≤ 16384
-    → front ++ left ≡ all → count + commands_of left ≡ total
-    → Leads (said_at here dcs round stages front count) (flat_map plan_lines left ++ closing) (said_at section.Ended dcs round stages all total)
-plans_lead here dcs round stages front count [] all total place few fits built room small same counted =
-    let whole : front ≡ all = sym (append-nil front) ∙ same in
-    let full_count : count ≡ total = omega (arith, counted) in (
-      said_at section.Steps dcs round stages front count,
+steps_lead : (dcs round : ℕ) (stages : List StagesOf) (plans : List SessionPlan) (count : ℕ) (done left all : List Step) → dcs ≤ 8 → length plans ≤ 64
+    → All (FitsStep (record { dcs = dcs; sessions = plans })) left → All IsBuiltStep left → length done + length left ≤ 65536 → done ++ left ≡ all
+    → Leads (stepping dcs round stages plans count done) (map turn_words left ++ end_words ∷ []) (ended_at dcs round stages plans count all)
+steps_lead dcs round stages plans count done [] all few room fits built short same = (
+  ended_at dcs round stages plans count done,
+  (end_takes dcs round stages plans count done, ap (λ (ts : List Step). ended_at dcs round stages plans count ts) (sym (append-nil done) ∙ same)),
+)
+steps_lead dcs round stages plans count done (t ∷ more) all few room fits built short same =
+    let Fits : Step → Type 0 = FitsStep (record { dcs = dcs; sessions = plans }) in (
+      stepping dcs round stages plans count (done ++ t ∷ []),
       (
-        steps_takes here dcs round stages front count place,
-        (
-          said_at section.Ended dcs round stages front count,
-          (
-            end_takes dcs round stages front count,
-            ap₂ (λ (ps : List SessionPlan) (n : ℕ). said_at section.Ended dcs round stages ps n) whole full_count,
-          ),
-        ),
+        turn_takes_line dcs round stages plans count done t few room (omega (arith, short)) (All-head Fits t more fits) (All-head IsBuiltStep t more built),
+        steps_lead dcs round stages plans count (done ++ t ∷ []) more all few room (All-tail Fits t more fits) (All-tail IsBuiltStep t more built)
+            (omega (arith, short, length-append done (t ∷ []))) (append_assoc done (t ∷ []) more ∙ same),
       ),
     )
-plans_lead here dcs round stages front count (plan ∷ more) all total place few fits built room small same counted =
+
+plans_lead : (here : Section) (dcs round : ℕ) (stages : List StagesOf) (front : List SessionPlan) (count : ℕ) (left all : List SessionPlan) (total : ℕ) (steps : List Step)
+    → (is_stages here || is_sessions here) ≡ true → dcs ≤ 8 → All (FitsPlan dcs) left → All IsBuiltPlan left → length front + length left ≤ 64 → total ≤ 16384
+    → front ++ left ≡ all → count + commands_of left ≡ total
+    → All (FitsStep (record { dcs = dcs; sessions = all })) steps → All IsBuiltStep steps → length steps ≤ 65536
+    → Leads (said_at here dcs round stages front count) (flat_map plan_lines left ++ closing steps) (ended_at dcs round stages all total steps)
+plans_lead here dcs round stages front count [] all total steps place few fits built room small same counted steps_fit turns short =
+    let whole : front ≡ all = sym (append-nil front) ∙ same in
+    let full_count : count ≡ total = omega (arith, counted) in
+    let some : length all ≤ 64 = omega (arith, room, ap (λ (ps : List SessionPlan). length ps) whole) in
+    let begun : Progress = said_at here dcs round stages front count in
+    let led : Leads (said_at here dcs round stages all total) (closing steps) (ended_at dcs round stages all total steps) = (
+      stepping dcs round stages all total [],
+      (steps_takes here dcs round stages all total place, steps_lead dcs round stages all total [] steps steps few some steps_fit turns (omega (arith, short)) refl),
+    ) in
+    subst (λ (p : Progress). Leads p (closing steps) (ended_at dcs round stages all total steps)) (sym (ap₂ (λ (ps : List SessionPlan) (n : ℕ). said_at here dcs round stages ps n) whole full_count)) led
+plans_lead here dcs round stages front count (plan ∷ more) all total steps place few fits built room small same counted steps_fit turns short =
     let first = All-head (FitsPlan dcs) plan more fits in
     let lead = commands_lead dcs round stages front plan.home [] count plan.commands plan.commands (count + length plan.commands)
     first.commands (All-head IsBuiltPlan plan more built) (omega (arith, counted, small)) refl refl in
-    let rest = plans_lead section.Sessions dcs round stages (front ++ plan ∷ []) (count + length plan.commands) more all total refl few
+    let rest = plans_lead section.Sessions dcs round stages (front ++ plan ∷ []) (count + length plan.commands) more all total steps refl few
     (All-tail (FitsPlan dcs) plan more fits) (All-tail IsBuiltPlan plan more built) (omega (arith, length-append front (plan ∷ []), room)) small
-    (append_assoc front (plan ∷ []) more ∙ same) (omega (arith, counted)) in
+    (append_assoc front (plan ∷ []) more ∙ same) (omega (arith, counted)) steps_fit turns short in
     let next : Progress = said_at section.Sessions dcs round stages (with_plan front plan.home []) count in
-    let end : Progress = said_at section.Ended dcs round stages all total in
-    let both = leads_append next (said_at section.Sessions dcs round stages (front ++ plan ∷ []) (count + length plan.commands)) end (map command_words plan.commands) (flat_map plan_lines more ++ closing) lead rest in (
+    let end : Progress = ended_at dcs round stages all total steps in
+    let both = leads_append next (said_at section.Sessions dcs round stages (front ++ plan ∷ []) (count + length plan.commands)) end (map command_words plan.commands) (flat_map plan_lines more ++ closing steps) lead rest in (
       next,
       (
         session_takes here dcs round stages front count plan.home place first.home few (omega (arith, room)),
-        subst (λ (ls : List (List (List ℕ))). Leads next ls end) (sym (append_assoc (map command_words plan.commands) (flat_map plan_lines more) closing)) both,
+        subst (λ (ls : List (List (List ℕ))). Leads next ls end) (sym (append_assoc (map command_words plan.commands) (flat_map plan_lines more) (closing steps))) both,
       ),
     )
 
@@ -457,29 +823,28 @@ stages_lead dcs round front (given ∷ more) all few built once new same = (
 )
 
 -- all lines of a script, one after another
-all_lead : (dcs round : ℕ) (stages : List StagesOf) (plans : List SessionPlan) → dcs ≡ 1 → 1 ≤ round → round ≤ 1024 → All (IsBuiltStages dcs) stages → AreGivenOnce stages
-    → All (FitsPlan dcs) plans → All IsBuiltPlan plans → length plans ≤ 64 → commands_of plans ≤ 16384
-    → Leads start (before_steps dcs round stages plans ++ closing) (said_at section.Ended dcs round stages plans (commands_of plans))
+all_lead : (dcs round : ℕ) (stages : List StagesOf) (plans : List SessionPlan) (steps : List Step) → 1 ≤ dcs → dcs ≤ 8 → 1 ≤ round → round ≤ 1024 → All (IsBuiltStages dcs) stages → AreGivenOnce stages
+    → All (FitsPlan dcs) plans → All IsBuiltPlan plans → length plans ≤ 64 → commands_of plans ≤ 16384 → All (FitsStep (record { dcs = dcs; sessions = plans })) steps → All IsBuiltStep steps → length steps ≤ 65536
+    → Leads start (before_steps dcs round stages plans ++ closing steps) (ended_at dcs round stages plans (commands_of plans) steps)
 unfolding before_steps
-all_lead dcs round stages plans one low high built once fits commands room small =
-    let few : dcs ≤ 8 = omega arith in
+all_lead dcs round stages plans steps some few low high built once fits commands room small steps_fit turns short =
     let begun : Progress = said_at section.Stages dcs round [] [] 0 in
-    let end : Progress = said_at section.Ended dcs round stages plans (commands_of plans) in
+    let end : Progress = ended_at dcs round stages plans (commands_of plans) steps in
     let given = stages_lead dcs round [] stages stages few built once (λ k d within. refl) refl in
-    let sessions = plans_lead section.Stages dcs round stages [] 0 plans plans (commands_of plans) refl few fits commands (omega (arith, room)) small refl (omega arith) in
-    let both = leads_append begun (said_at section.Stages dcs round stages [] 0) end (map stages_words stages) (flat_map plan_lines plans ++ closing) given sessions in (
+    let sessions = plans_lead section.Stages dcs round stages [] 0 plans plans (commands_of plans) steps refl few fits commands (omega (arith, room)) small refl (omega arith) steps_fit turns short in
+    let both = leads_append begun (said_at section.Stages dcs round stages [] 0) end (map stages_words stages) (flat_map plan_lines plans ++ closing steps) given sessions in (
       said_at section.Datacentres 0 0 [] [] 0,
       (
         chariots_takes,
         (
           said_at section.Round dcs 0 [] [] 0,
           (
-            datacentres_takes dcs one,
+            datacentres_takes dcs some few,
             (
               begun,
               (
                 round_takes dcs round low high,
-                subst (λ (ls : List (List (List ℕ))). Leads begun ls end) (sym (append_assoc (map stages_words stages) (flat_map plan_lines plans) closing)) both,
+                subst (λ (ls : List (List (List ℕ))). Leads begun ls end) (sym (append_assoc (map stages_words stages) (flat_map plan_lines plans) (closing steps))) both,
               ),
             ),
           ),
@@ -527,11 +892,12 @@ what_is_written_is_read script lines written =
     let dcs : ℕ = script.workload.dcs in
     let plans : List SessionPlan = script.workload.sessions in
     let stages : List StagesOf = written.spells.stages in
-    let end : Progress = said_at section.Ended dcs script.round stages plans (commands_of plans) in
-    let lead = all_lead dcs script.round stages plans written.one written.fits.round.0 written.fits.round.1 written.stages written.once
-    written.fits.limits.plans written.commands written.fits.limits.sessions written.fits.limits.commands in
+    let limits = written.fits.limits in
+    let end : Progress = ended_at dcs script.round stages plans (commands_of plans) script.steps in
+    let lead = all_lead dcs script.round stages plans script.steps limits.workload.some limits.workload.few written.fits.round.0 written.fits.round.1 written.stages written.once
+    limits.plans written.commands limits.sessions limits.commands written.steps written.turns written.fits.steps in
     let leads = subst (λ (ls : List (List (List ℕ))). Leads start ls end) (sym written.spells.written) lead in
-    let same : script_said end ≡ script = ap₂ (λ (sizes : List Sizes) (steps : List Step). record script { sizes = sizes; steps = steps }) (sym written.spells.sizes) (sym written.spells.steps) in
+    let same : script_said end ≡ script = ap (λ (sizes : List Sizes). record script { sizes = sizes }) (sym written.spells.sizes) in
     lines_read start 1 lines end written.bytes leads refl ∙ ap (λ (s : Script). Ok s) same
 
 abbrev read : Script → Result Script ScriptFault

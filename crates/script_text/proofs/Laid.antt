@@ -1,21 +1,19 @@
 -- What has been said is what the lines so far write.
-use Rattle.std.proofs.Common.{◌≡◌, ◌<◌, ◌≤◌, ◌+◌, ◌-◌, ◌^◌, ℕ, List, [], ◌∷◌, ◌++◌, length, refl, ap, sym, subst, ◌∙◌, arith, Bool, true, false, cond, not, ◌&&◌, ◌||◌, nat_eq, ◌⊎◌, inl, inr, map, append_assoc, lit<, rules, All}
-use Rattle.std.specs.Prelude.{nat_le, nat_lt, Ok, Err, Result, Option, Some, None, is_none, drop, slice_index, IfOk, codes, bytes_eq}
+use Rattle.std.proofs.Common.{◌≡◌, ◌<◌, ◌≤◌, ◌+◌, ℕ, List, [], ◌∷◌, ◌++◌, length, refl, ap, sym, subst, ◌∙◌, arith, Bool, true, false, cond, not, ◌||◌, nat_eq, ◌⊎◌, inl, inr, map, append_assoc, lit<, All}
+use Rattle.std.specs.Prelude.{nat_le, nat_lt, Ok, Err, Result, Option, Some, None, IfOk, codes, bytes_eq}
 use Rattle.std.specs.List.{list_all, list_any, find, flat_map}
 use Rattle.std.specs.Fmt.{decimal}
 use Rattle.std.proofs.lemmas.Bool.Decides.{nat_tests}
 use Rattle.std.proofs.lemmas.Grind.{flat_map-append}
 use Rattle.std.proofs.lemmas.List.{map-append, append-nil}
 use Rattle.std.proofs.lemmas.List.Elements.{All-nil, All-cons}
-use Rattle.std.proofs.lemmas.Str.Parse.{IsNumeralModel, IsDigitsTest, numerals_by_value}
-use Rattle.std.proofs.lemmas.Fmt.{decimal-digits_value}
 use Rattle.std.proofs.lemmas.Slice.Eq.{bytes_eq-Decides}
-use Rattle.cz_base.specs.Text.{first_bad, is_body_byte}
 use Rattle.abstract_log.specs.declared.command.Command.{Command}
 use Rattle.abstract_log.specs.declared.command.Command.TheVariants as command
 use Rattle.abstract_log.specs.declared.command.SessionPlan.{SessionPlan}
 use Rattle.abstract_log.specs.declared.script.Script.{Script}
 use Rattle.abstract_log.specs.declared.script.Sizes.{Sizes}
+use Rattle.abstract_log.specs.declared.script.Step.{Step}
 use Rattle.script_text.specs.declared.fault.Cause.{Cause}
 use Rattle.script_text.specs.declared.fault.Cause.TheVariants.{BadSpacing, AfterEnd}
 use Rattle.script_text.specs.declared.fault.ScriptFault.{ScriptFault}
@@ -23,132 +21,22 @@ use Rattle.script_text.specs.declared.keyword.Keyword.{Keyword}
 use Rattle.script_text.specs.declared.keyword.Keyword.TheVariants.{Chariots, Datacentres, Round, Stages, Session, Command as CommandLine, Steps, Turn, End}
 use Rattle.script_text.specs.declared.keyword.CommandWord.{CommandWord}
 use Rattle.script_text.specs.declared.keyword.CommandWord.TheVariants.{Append, Put, Get, Tx, Read, Last}
+use Rattle.script_text.specs.declared.keyword.TurnWord.{TurnWord}
 use Rattle.script_text.specs.declared.section.Section.{Section}
 use Rattle.script_text.specs.declared.section.Section.TheVariants as section
 use Rattle.script_text.specs.declared.progress.Progress.{Progress}
 use Rattle.script_text.specs.declared.progress.Stages.{Stages as StagesOf}
-use Rattle.script_text.specs.Words.{is_digit, is_number, number_of, is_datacentre, is_name, is_body, words, is_line_byte, is_empty_word}
-use Rattle.script_text.specs.Reading.{number_in, number_at, datacentre_at, body_in, body_at, names_in}
-use Rattle.script_text.specs.Keywords.{text_of, keywords, keyword_of, stands, is_built, least_words, most_words, is_start, is_datacentres, is_round, is_stages, is_sessions, is_steps, is_ended}
-use Rattle.script_text.specs.Meaning.{start, chariots_line, datacentres_line, round_line, sizes_at, stages_line, session_line, onto_last, with_command, append_line, read_line, command_meaning, meaning, keyword_after, words_after, is_passed_over, line_after, is_given, script_said, told, next_number, script_from, script_of}
-use Rattle.script_text.specs.Spelled.{letter, command_words, plan_lines, stages_words, first_words, datacentres_words, round_words, before_steps, steps_words, end_words, said_words, Spells, IsBuiltCommand, IsWritten}
+use Rattle.script_text.specs.Words.{words, is_line_byte, is_empty_word}
+use Rattle.script_text.specs.Reading.{number_at, datacentre_at, body_at, name_at, names_in}
+use Rattle.script_text.specs.Keywords.{text_of, turn_text, keywords, keyword_of, stands, is_built, turn_arguments, least_words, most_words, is_start, is_datacentres, is_round, is_stages, is_sessions, is_steps, is_ended}
+use Rattle.script_text.specs.Meaning.{start, chariots_line, datacentres_line, round_line, sizes_at, stages_line, session_line, onto_last, with_command, append_line, put_line, read_line, turn_line, command_meaning, meaning, keyword_after, words_after, is_passed_over, line_after, is_given, script_said, told, next_number, script_from, script_of}
+use Rattle.script_text.specs.Spelled.{letter, command_words, plan_lines, stages_words, first_words, datacentres_words, round_words, before_steps, turn_words, steps_words, end_words, said_words, Spells, IsBuiltCommand, IsBuiltStep, IsWritten}
+use Rattle.script_text.specs.Steps.{FitsStep}
 use Rattle.abstract_log.specs.Fits.{FitsScript}
-use Rattle.script_text.proofs.Sound.{IsSound, start-sound, line-sound, said-fits, rank-ended, okay, okay-same, bind_ok, guard_ok, pass_ok, and_both, not_false, or_false, told_ok}
-
--- Words.
-
-digits_test : IsDigitsTest (λ ds. list_all is_digit ds ≡ true)
-digits_test = search rules
-
--- the digits of a number word are a numeral
-pub own : IsNumeralModel (λ ds. list_all is_digit ds ≡ true) number_of
-own = numerals_by_value (λ ds. list_all is_digit ds ≡ true) digits_test
-
-le_one : (n : ℕ) → nat_le n 1 ≡ true → n ≤ 1
-le_one n h = grind (arith, nat_tests)
-
-not_48 : (b : ℕ) → not (nat_eq b 48) ≡ true → b ≡ 48 → ⊥
-not_48 b h is = grind (arith, nat_tests)
-
-or_true : (a b : Bool) → (a || b) ≡ true → (a ≡ true) ⊎ (b ≡ true)
-or_true true b h = inl refl
-or_true false b h = inr h
-
-lone_zero : (n b : ℕ) → (nat_le n 1 || not (nat_eq b 48)) ≡ true → 1 ≤ n → b ≡ 48 → n ≡ 1
-lone_zero n b test some is =
-    elim (or_true (nat_le n 1) (not (nat_eq b 48)) test) [
-      | inl few ↦ omega (arith, le_one n few)
-      | inr other ↦ absurd (not_48 b other is)
-    ]
-
--- a number word is what is written for its number
-number_word : (word : List ℕ) → is_number word ≡ true → number_of word < 2 ^ 64 → decimal (number_of word) ≡ word
-number_word word form small =
-    let last = and_both (list_all is_digit word && nat_le 1 (length word) && nat_le (length word) 10) (nat_le (length word) 1 || not (nat_eq (slice_index word 0) 48)) form in
-    let third = and_both (list_all is_digit word && nat_le 1 (length word)) (nat_le (length word) 10) last.0 in
-    let second = and_both (list_all is_digit word) (nat_le 1 (length word)) third.0 in
-    let some : 1 ≤ length word = grind (arith, nat_tests, second.1) in
-    let lone : slice_index word 0 ≡ 48 → length word ≡ 1 = λ h. lone_zero (length word) (slice_index word 0) last.1 some h in
-    decimal-digits_value own word second.0 (omega arith) lone small
-
-pub record SpellsNumber (least most : ℕ) (left : List (List ℕ)) (x : ℕ × List (List ℕ)) : Type 0 where
-  pub word : left ≡ decimal x.0 ∷ x.1
-  pub low : least ≤ x.0
-  pub high : x.0 ≤ most
-
-number_spells : (least most : ℕ) (left : List (List ℕ)) (x : ℕ × List (List ℕ)) → most < 2 ^ 64 → number_at least most left ≡ Ok x → SpellsNumber least most left x
-unfolding number_at
-number_spells least most [] x fits same = cc
-number_spells least most (word ∷ more) x fits same =
-    let bound = bind_ok (number_in least most word) (λ n. Ok (n, more)) x same in
-    let form = pass_ok (is_number word) _ _ bound.0 bound.1.0 in
-    let range = pass_ok (nat_le least (number_of word) && nat_le (number_of word) most) _ _ bound.0 form.1 in
-    let both = and_both (nat_le least (number_of word)) (nat_le (number_of word) most) range.0 in
-    let value : number_of word ≡ bound.0 = okay-same (number_of word) bound.0 range.1 in
-    let pair : (bound.0, more) ≡ x = okay-same (bound.0, more) x bound.1.1 in
-    let low : least ≤ number_of word = grind (arith, nat_tests, both.0) in
-    let high : number_of word ≤ most = grind (arith, nat_tests, both.1) in
-    let spelled = number_word word form.0 (omega arith) in
-    let made : SpellsNumber least most (word ∷ more) (bound.0, more) = record {
-      word = ap (λ (w : List ℕ). w ∷ more) (sym spelled ∙ ap (λ (n : ℕ). decimal n) value);
-      low = omega (arith, low, value);
-      high = omega (arith, high, value);
-    } in
-    subst (λ (p : ℕ × List (List ℕ)). SpellsNumber least most (word ∷ more) p) pair made
-
-letter_word : (dcs : ℕ) (word : List ℕ) → is_datacentre dcs word ≡ true → word ≡ letter (slice_index word 0 - 65)
-letter_word dcs [] h = cc
-letter_word dcs (b ∷ []) h =
-    let both = and_both (nat_le 65 b && nat_lt b (65 + dcs)) (nat_lt b 73) h in
-    let first = and_both (nat_le 65 b) (nat_lt b (65 + dcs)) both.0 in
-    let low : 65 ≤ b = grind (arith, nat_tests, first.0) in
-    let same : b ≡ 65 + (b - 65) = omega (arith, low) in
-    ap (λ (n : ℕ). n ∷ []) same
-letter_word dcs (b ∷ next ∷ more) h = cc
-
-datacentre_spells : (dcs : ℕ) (left : List (List ℕ)) (x : ℕ × List (List ℕ)) → datacentre_at dcs left ≡ Ok x → left ≡ letter x.0 ∷ x.1
-unfolding datacentre_at
-datacentre_spells dcs [] x same = cc
-datacentre_spells dcs (word ∷ more) x same =
-    let form = pass_ok (is_datacentre dcs word) _ _ x same in
-    let pair : (slice_index word 0 - 65, more) ≡ x = okay-same (slice_index word 0 - 65, more) x form.1 in
-    subst (λ (p : ℕ × List (List ℕ)). word ∷ more ≡ letter p.0 ∷ p.1) pair (ap (λ (w : List ℕ). w ∷ more) (letter_word dcs word form.0))
-
-body_word : (word : List ℕ) → is_body word ≡ true → word ≡ 61 ∷ drop 1 word
-body_word [] h = cc
-body_word (sign ∷ bytes) h =
-    let both = and_both ((nat_eq sign 61) && nat_le (length bytes) 1024) (is_none (first_bad is_body_byte bytes)) h in
-    let first = and_both (nat_eq sign 61) (nat_le (length bytes) 1024) both.0 in
-    let same : sign ≡ 61 = grind (arith, nat_tests, first.0) in
-    ap (λ (s : ℕ). s ∷ bytes) same
-
-body_spells : (left : List (List ℕ)) (x : List ℕ × List (List ℕ)) → body_at left ≡ Ok x → left ≡ (61 ∷ x.0) ∷ x.1
-unfolding body_at
-body_spells [] x same = cc
-body_spells (word ∷ more) x same =
-    let bound = bind_ok (body_in word) (λ body. Ok (body, more)) x same in
-    let form = pass_ok (is_body word) _ _ bound.0 bound.1.0 in
-    let value : drop 1 word ≡ bound.0 = okay-same (drop 1 word) bound.0 form.1 in
-    let pair : (bound.0, more) ≡ x = okay-same (bound.0, more) x bound.1.1 in
-    subst (λ (p : List ℕ × List (List ℕ)). word ∷ more ≡ (61 ∷ p.0) ∷ p.1) pair
-    (ap (λ (w : List ℕ). w ∷ more) (body_word word form.0 ∙ ap (λ (bytes : List ℕ). 61 ∷ bytes) value))
-
-names_spell : (left tags : List (List ℕ)) → names_in left ≡ Ok tags → left ≡ tags
-unfolding names_in
-names_spell left tags same =
-    let form = pass_ok (list_all is_name left) _ _ tags same in
-    okay-same left tags form.1
-
-none_left : (left : List (List ℕ)) → length left ≡ 0 → left ≡ []
-none_left [] none = refl
-none_left (word ∷ more) none = absurd (omega arith)
-
--- a line of one number behind its first word
-one_number : (least most : ℕ) (left : List (List ℕ)) (x : ℕ × List (List ℕ)) → most < 2 ^ 64 → length left ≤ 1 → number_at least most left ≡ Ok x → left ≡ decimal x.0 ∷ []
-one_number least most left x fits few same =
-    let n = number_spells least most left x fits same in
-    let none : length x.1 ≡ 0 = omega (arith, ap (λ (ws : List (List ℕ)). length ws) n.word) in
-    n.word ∙ ap (λ (ws : List (List ℕ)). decimal x.0 ∷ ws) (none_left x.1 none)
+use Rattle.script_text.proofs.Sound.{IsSound, start-sound, line-sound, said-fits, rank-ended, rank-upto}
+use Rattle.script_text.proofs.Going.{okay, okay-same, bind_ok, guard_ok, pass_ok, not_false, or_false, told_ok}
+use Rattle.script_text.proofs.Spelling.{number_spells, datacentre_spells, body_spells, name_spells, names_spell, none_left, one_number}
+use Rattle.script_text.proofs.TurnLemmas.{and_step, turn_takes}
 
 -- The keyword that was found is the word.
 
@@ -177,8 +65,8 @@ so_far_at section.Datacentres said = first_words ∷ []
 so_far_at section.Round said = first_words ∷ datacentres_words said.dcs ∷ []
 so_far_at section.Stages said = before_steps said.dcs said.round said.stages said.sessions
 so_far_at section.Sessions said = before_steps said.dcs said.round said.stages said.sessions
-so_far_at section.Steps said = before_steps said.dcs said.round said.stages said.sessions ++ steps_words ∷ []
-so_far_at section.Ended said = before_steps said.dcs said.round said.stages said.sessions ++ steps_words ∷ end_words ∷ []
+so_far_at section.Steps said = before_steps said.dcs said.round said.stages said.sessions ++ steps_words ∷ map turn_words said.steps
+so_far_at section.Ended said = before_steps said.dcs said.round said.stages said.sessions ++ steps_words ∷ (map turn_words said.steps ++ end_words ∷ [])
 
 -- no `stages` line stands before its part, and no session
 abbrev pub laid_at : Section → Progress → Type 0
@@ -335,8 +223,8 @@ datacentres-lays : (said after : Progress) (left : List (List ℕ)) → said.sec
     → Lays said after (codes "datacentres" ∷ left)
 unfolding datacentres_line
 datacentres-lays said after left here laid few same =
-    let read = bind_ok (number_at 1 1 left) _ after same in
-    let alone = one_number 1 1 left read.0 (lit< tt) few read.1.0 in
+    let read = bind_ok (number_at 1 8 left) _ after same in
+    let alone = one_number 1 8 left read.0 (lit< tt) few read.1.0 in
     let is : record said { dcs = read.0.0; section = section.Round } ≡ after = okay-same (record said { dcs = read.0.0; section = section.Round }) after read.1.1 in
     let none : (said.stages ≡ []) × (said.sessions ≡ []) = subst (λ (s : Section). laid_at s said) here laid in
     let before : so_far_at said.section said ≡ first_words ∷ [] = ap (λ (s : Section). so_far_at s said) here in
@@ -369,20 +257,20 @@ sizes_spell : (left : List (List ℕ)) (x : Sizes × List (List ℕ)) → sizes_
     → left ≡ decimal x.0.batchers ∷ decimal x.0.filters ∷ decimal x.0.queues ∷ decimal x.0.maintainers ∷ decimal x.0.indexers ∷ decimal x.0.senders ∷ decimal x.0.receivers ∷ x.1
 unfolding sizes_at
 sizes_spell left x same =
-    let one = bind_ok (number_at 1 1 left) _ x same in
-    let two = bind_ok (number_at 1 1 one.0.1) _ x one.1.1 in
-    let three = bind_ok (number_at 1 1 two.0.1) _ x two.1.1 in
+    let one = bind_ok (number_at 1 16 left) _ x same in
+    let two = bind_ok (number_at 1 16 one.0.1) _ x one.1.1 in
+    let three = bind_ok (number_at 1 16 two.0.1) _ x two.1.1 in
     let four = bind_ok (number_at 1 16 three.0.1) _ x three.1.1 in
     let five = bind_ok (number_at 1 1 four.0.1) _ x four.1.1 in
-    let six = bind_ok (number_at 1 1 five.0.1) _ x five.1.1 in
-    let seven = bind_ok (number_at 1 1 six.0.1) _ x six.1.1 in
-    let a = (number_spells 1 1 left one.0 (lit< tt) one.1.0).word in
-    let b = (number_spells 1 1 one.0.1 two.0 (lit< tt) two.1.0).word in
-    let c = (number_spells 1 1 two.0.1 three.0 (lit< tt) three.1.0).word in
+    let six = bind_ok (number_at 1 16 five.0.1) _ x five.1.1 in
+    let seven = bind_ok (number_at 1 16 six.0.1) _ x six.1.1 in
+    let a = (number_spells 1 16 left one.0 (lit< tt) one.1.0).word in
+    let b = (number_spells 1 16 one.0.1 two.0 (lit< tt) two.1.0).word in
+    let c = (number_spells 1 16 two.0.1 three.0 (lit< tt) three.1.0).word in
     let d = (number_spells 1 16 three.0.1 four.0 (lit< tt) four.1.0).word in
     let e = (number_spells 1 1 four.0.1 five.0 (lit< tt) five.1.0).word in
-    let f = (number_spells 1 1 five.0.1 six.0 (lit< tt) six.1.0).word in
-    let g = (number_spells 1 1 six.0.1 seven.0 (lit< tt) seven.1.0).word in
+    let f = (number_spells 1 16 five.0.1 six.0 (lit< tt) six.1.0).word in
+    let g = (number_spells 1 16 six.0.1 seven.0 (lit< tt) seven.1.0).word in
     let made : Sizes = record { batchers = one.0.0; filters = two.0.0; queues = three.0.0; maintainers = four.0.0; indexers = five.0.0; senders = six.0.0; receivers = seven.0.0 } in
     let pair : (made, seven.0.1) ≡ x = okay-same (made, seven.0.1) x seven.1.1 in
     let all = a ∙ ap (λ (ws : List (List ℕ)). decimal one.0.0 ∷ ws)
@@ -475,6 +363,18 @@ append-lays said after left here same =
     = ap (λ (ws : List (List ℕ)). codes "append" ∷ ws) (first ∙ ap (λ (ws : List (List ℕ)). (61 ∷ body.0.0) ∷ ws) rest) in
     command-lays said after (command.Append tags.0 body.0.0) (codes "append" ∷ left) here spelled tags.1.1
 
+put-lays : (said after : Progress) (left : List (List ℕ)) → said.section ≡ section.Sessions → length left ≤ 2 → put_line said left ≡ Ok after → Lays said after (codes "put" ∷ left)
+unfolding put_line
+put-lays said after left here few same =
+    let key = bind_ok (name_at left) _ after same in
+    let body = bind_ok (body_at key.0.1) _ after key.1.1 in
+    let first = name_spells left key.0 key.1.0 in
+    let second = body_spells key.0.1 body.0 body.1.0 in
+    let none : length body.0.1 ≡ 0 = omega (arith, ap (λ (ws : List (List ℕ)). length ws) first, ap (λ (ws : List (List ℕ)). length ws) second, few) in
+    let whole : left ≡ key.0.0 ∷ (61 ∷ body.0.0) ∷ []
+    = first ∙ ap (λ (ws : List (List ℕ)). key.0.0 ∷ ws) (second ∙ ap (λ (ws : List (List ℕ)). (61 ∷ body.0.0) ∷ ws) (none_left body.0.1 none)) in
+    command-lays said after (command.Put key.0.0 body.0.0) (codes "put" ∷ left) here (ap (λ (ws : List (List ℕ)). codes "put" ∷ ws) whole) body.1.1
+
 read-lays : (said after : Progress) (left : List (List ℕ)) → said.section ≡ section.Sessions → length left ≤ 1 → read_line said left ≡ Ok after → Lays said after (codes "read" ∷ left)
 unfolding read_line
 read-lays said after left here few same =
@@ -486,23 +386,42 @@ command_line-lays : (said after : Progress) (word : CommandWord) (left : List (L
     → Lays said after (text_of (CommandLine word) ∷ left)
 unfolding text_of
 command_line-lays said after Append left here few same = append-lays said after left here same
-command_line-lays said after Put left here few same = cc
+command_line-lays said after Put left here few same = put-lays said after left here few same
 command_line-lays said after Get left here few same = cc
 command_line-lays said after Tx left here few same = cc
 command_line-lays said after Read left here few same = read-lays said after left here few same
 command_line-lays said after Last left here few same = cc
 
-steps-lays : (said after : Progress) (left : List (List ℕ)) → (said.section ≡ section.Stages) ⊎ (said.section ≡ section.Sessions) → length left ≤ 0 → okay (record said { section = section.Steps }) ≡ okay after
+steps-lays : (said after : Progress) (left : List (List ℕ)) → (said.section ≡ section.Stages) ⊎ (said.section ≡ section.Sessions) → length left ≤ 0 → said.steps ≡ [] → okay (record said { section = section.Steps }) ≡ okay after
     → Lays said after (codes "steps" ∷ left)
-steps-lays said after left here few same =
+steps-lays said after left here few idle same =
     let is : record said { section = section.Steps } ≡ after = okay-same (record said { section = section.Steps }) after same in
     let alone = none_left left (omega arith) in
+    let all : List (List (List ℕ)) = before_steps said.dcs said.round said.stages said.sessions in
     let made : Lays said (record said { section = section.Steps }) (codes "steps" ∷ left) = record {
       laid = tt;
-      more = ap (λ (ws : List (List ℕ)). before_steps said.dcs said.round said.stages said.sessions ++ (codes "steps" ∷ ws) ∷ []) (sym alone)
+      more = ap (λ (ts : List Step). all ++ steps_words ∷ map turn_words ts) idle
+          ∙ ap (λ (ws : List (List ℕ)). all ++ (codes "steps" ∷ ws) ∷ []) (sym alone)
           ∙ ap (λ (ls : List (List (List ℕ))). ls ++ (codes "steps" ∷ left) ∷ []) (sym (either-before said here));
     } in
     subst (λ (p : Progress). Lays said p (codes "steps" ∷ left)) is made
+
+turn-lays : (said after : Progress) (word : TurnWord) (left : List (List ℕ)) → said.section ≡ section.Steps → length left ≤ length (turn_arguments word) → turn_line said word left ≡ Ok after
+    → Lays said after (turn_text word ∷ left)
+turn-lays said after word left here few same =
+    let takes = turn_takes said after word left few same in
+    let next : Progress = and_step said takes.step in
+    let all : List (List (List ℕ)) = before_steps said.dcs said.round said.stages said.sessions in
+    let before : so_far_at said.section said ≡ all ++ steps_words ∷ map turn_words said.steps = ap (λ (s : Section). so_far_at s said) here in
+    let now : so_far_at said.section next ≡ all ++ steps_words ∷ map turn_words (said.steps ++ takes.step ∷ []) = ap (λ (s : Section). so_far_at s next) here in
+    let made : Lays said next (turn_text word ∷ left) = record {
+      laid = subst (λ (s : Section). laid_at s next) (sym here) tt;
+      more = now ∙ ap (λ (ls : List (List (List ℕ))). all ++ steps_words ∷ ls) (map-append turn_words said.steps (takes.step ∷ []))
+          ∙ sym (append_assoc all (steps_words ∷ map turn_words said.steps) (turn_words takes.step ∷ []))
+          ∙ ap (λ (l : List (List ℕ)). (all ++ steps_words ∷ map turn_words said.steps) ++ l ∷ []) (sym takes.turn.words)
+          ∙ ap (λ (ls : List (List (List ℕ))). ls ++ (turn_text word ∷ left) ∷ []) (sym before);
+    } in
+    subst (λ (p : Progress). Lays said p (turn_text word ∷ left)) takes.is made
 
 end-lays : (said after : Progress) (left : List (List ℕ)) → said.section ≡ section.Steps → length left ≤ 0 → okay (record said { section = section.Ended }) ≡ okay after
     → Lays said after (codes "end" ∷ left)
@@ -510,44 +429,44 @@ end-lays said after left here few same =
     let is : record said { section = section.Ended } ≡ after = okay-same (record said { section = section.Ended }) after same in
     let alone = none_left left (omega arith) in
     let all : List (List (List ℕ)) = before_steps said.dcs said.round said.stages said.sessions in
-    let before : so_far_at said.section said ≡ all ++ steps_words ∷ [] = ap (λ (s : Section). so_far_at s said) here in
+    let before : so_far_at said.section said ≡ all ++ steps_words ∷ map turn_words said.steps = ap (λ (s : Section). so_far_at s said) here in
     let made : Lays said (record said { section = section.Ended }) (codes "end" ∷ left) = record {
       laid = tt;
-      more = sym (append_assoc all (steps_words ∷ []) (end_words ∷ []))
-          ∙ ap (λ (ws : List (List ℕ)). (all ++ steps_words ∷ []) ++ (codes "end" ∷ ws) ∷ []) (sym alone)
+      more = sym (append_assoc all (steps_words ∷ map turn_words said.steps) (end_words ∷ []))
+          ∙ ap (λ (ws : List (List ℕ)). (all ++ steps_words ∷ map turn_words said.steps) ++ (codes "end" ∷ ws) ∷ []) (sym alone)
           ∙ ap (λ (ls : List (List (List ℕ))). ls ++ (codes "end" ∷ left) ∷ []) (sym before);
     } in
     subst (λ (p : Progress). Lays said p (codes "end" ∷ left)) is made
 
-meaning-lays : (said after : Progress) (keyword : Keyword) (left : List (List ℕ)) → stands keyword said.section ≡ true → length left ≤ most_words keyword → laid_at said.section said → meaning said keyword left ≡ Ok after
+meaning-lays : (said after : Progress) (keyword : Keyword) (left : List (List ℕ)) → stands keyword said.section ≡ true → length left ≤ most_words keyword → laid_at said.section said → IsSound said → meaning said keyword left ≡ Ok after
     → Lays said after (text_of keyword ∷ left)
 unfolding text_of
-meaning-lays said after Chariots left here few laid same = chariots-lays said after left (at-start said.section here) laid few same
-meaning-lays said after Datacentres left here few laid same = datacentres-lays said after left (at-datacentres said.section here) laid few same
-meaning-lays said after Round left here few laid same = round-lays said after left (at-round said.section here) laid few same
-meaning-lays said after Stages left here few laid same = stages-lays said after left (at-stages said.section here) laid few same
-meaning-lays said after Session left here few laid same = session-lays said after left (at-either said.section here) few same
-meaning-lays said after (CommandLine word) left here few laid same = command_line-lays said after word left (at-sessions said.section here) few same
-meaning-lays said after Steps left here few laid same = steps-lays said after left (at-either said.section here) few same
-meaning-lays said after (Turn word) left here few laid same = cc
-meaning-lays said after End left here few laid same = end-lays said after left (at-steps said.section here) few same
+meaning-lays said after Chariots left here few laid sound same = chariots-lays said after left (at-start said.section here) laid few same
+meaning-lays said after Datacentres left here few laid sound same = datacentres-lays said after left (at-datacentres said.section here) laid few same
+meaning-lays said after Round left here few laid sound same = round-lays said after left (at-round said.section here) laid few same
+meaning-lays said after Stages left here few laid sound same = stages-lays said after left (at-stages said.section here) laid few same
+meaning-lays said after Session left here few laid sound same = session-lays said after left (at-either said.section here) few same
+meaning-lays said after (CommandLine word) left here few laid sound same = command_line-lays said after word left (at-sessions said.section here) few same
+meaning-lays said after Steps left here few laid sound same = steps-lays said after left (at-either said.section here) few (sound.idle (rank-upto said.section here)) same
+meaning-lays said after (Turn word) left here few laid sound same = turn-lays said after word left (at-steps said.section here) few same
+meaning-lays said after End left here few laid sound same = end-lays said after left (at-steps said.section here) few same
 
-keyword-lays : (said after : Progress) (first : List ℕ) (keyword : Option Keyword) (left : List (List ℕ)) → keyword_of first ≡ keyword → laid_at said.section said → keyword_after said keyword left ≡ Ok after
+keyword-lays : (said after : Progress) (first : List ℕ) (keyword : Option Keyword) (left : List (List ℕ)) → keyword_of first ≡ keyword → laid_at said.section said → IsSound said → keyword_after said keyword left ≡ Ok after
     → Lays said after (first ∷ left)
-keyword-lays said after first None left spelled laid same = cc
-keyword-lays said after first (Some keyword) left spelled laid same =
+keyword-lays said after first None left spelled laid sound same = cc
+keyword-lays said after first (Some keyword) left spelled laid sound same =
     let place = guard_ok (not (stands keyword said.section)) _ _ after same in
     let built = guard_ok (not (is_built keyword)) _ _ after place.1 in
     let count = guard_ok (nat_lt (length left) (least_words keyword) || nat_lt (most_words keyword) (length left)) _ _ after built.1 in
     let most = or_false (nat_lt (length left) (least_words keyword)) (nat_lt (most_words keyword) (length left)) count.0 in
     let few : length left ≤ most_words keyword = grind (arith, nat_tests, most.1) in
     subst (λ (word : List ℕ). Lays said after (word ∷ left)) (sym (keyword_text first keyword spelled))
-    (meaning-lays said after keyword left (not_false (stands keyword said.section) place.0) few laid count.1)
+    (meaning-lays said after keyword left (not_false (stands keyword said.section) place.0) few laid sound count.1)
 
-words-lay : (said after : Progress) (line : List (List ℕ)) → laid_at said.section said → words_after said line ≡ Ok after → Lays said after line
+words-lay : (said after : Progress) (line : List (List ℕ)) → laid_at said.section said → IsSound said → words_after said line ≡ Ok after → Lays said after line
 unfolding words_after
-words-lay said after [] laid same = cc
-words-lay said after (first ∷ more) laid same = keyword-lays said after first (keyword_of first) more refl laid same
+words-lay said after [] laid sound same = cc
+words-lay said after (first ∷ more) laid sound same = keyword-lays said after first (keyword_of first) more refl laid sound same
 
 -- what a whole line adds
 adds_of : (said after : Progress) (line : List (List ℕ)) (over : Bool) (rest : Result Progress Cause) → laid_at said.section said → (rest ≡ okay after → Lays said after line) → cond over (okay said) rest ≡ okay after
@@ -556,17 +475,17 @@ adds_of said after line true rest laid lays same =
     subst (λ (p : Progress). laid_at p.section p × (so_far_at p.section p ≡ so_far_at said.section said ++ [])) (okay-same said after same) (laid, sym (append-nil (so_far_at said.section said)))
 adds_of said after line false rest laid lays same = ((lays same).laid, (lays same).more)
 
-line-adds : (said after : Progress) (line : List ℕ) → laid_at said.section said → line_after said line ≡ Ok after
+line-adds : (said after : Progress) (line : List ℕ) → laid_at said.section said → IsSound said → line_after said line ≡ Ok after
     → laid_at after.section after × (so_far_at after.section after ≡ so_far_at said.section said ++ cond (is_passed_over line) [] (words line ∷ []))
 unfolding line_after
-line-adds said after line laid same =
+line-adds said after line laid sound same =
     let bytes = guard_ok (not (list_all is_line_byte line)) _ _ after same in
     let rest : Result Progress Cause = cond (list_any is_empty_word (words line)) (Err BadSpacing) (cond (is_ended said.section) (Err AfterEnd) (words_after said (words line))) in
     adds_of said after (words line) (is_passed_over line) rest laid
     (λ (on : rest ≡ okay after).
     let spaced = guard_ok (list_any is_empty_word (words line)) _ _ after on in
     let going = guard_ok (is_ended said.section) _ _ after spaced.1 in
-    words-lay said after (words line) laid going.1)
+    words-lay said after (words line) laid sound going.1)
     bytes.1
 
 joined : (over : Bool) (line : List (List ℕ)) (more : List (List (List ℕ))) → cond over [] (line ∷ []) ++ more ≡ cond over more (line ∷ more)
@@ -604,7 +523,7 @@ script_from-ends said number [] script laid sound same =
 script_from-ends said number (line ∷ more) script laid sound same =
     let step = bind_ok (told number (line_after said line)) (λ after. script_from after (next_number number) more) script same in
     let on = told_ok number (line_after said line) step.0 step.1.0 in
-    let adds = line-adds said step.0 line laid on in
+    let adds = line-adds said step.0 line laid sound on in
     let ends = script_from-ends step.0 (next_number number) more script adds.0 (line-sound said step.0 line sound on) step.1.1 in
     let here : List (List (List ℕ)) = so_far_at said.section said in
     let grown = ap (λ (ls : List (List (List ℕ))). ls ++ said_words more) adds.1 in
@@ -626,7 +545,6 @@ script_of-written lines script same =
     let spelled : Spells (script_said ends.at_end) lines = record {
       stages = ends.at_end.stages;
       sizes = refl;
-      steps = ends.sound.steps;
       written = sym ends.more;
     } in
     let written : IsWritten (script_said ends.at_end) lines = record {
@@ -635,8 +553,9 @@ script_of-written lines script same =
       stages = ends.sound.given;
       once = ends.sound.once;
       fits = said-fits ends.at_end ends.sound (omega (arith, late));
+      steps = ends.sound.steps;
       commands = ends.sound.built;
-      one = ends.sound.one (omega (arith, late));
+      turns = ends.sound.turns;
     } in
     subst (λ (s : Script). IsWritten s lines) ends.is written
 
@@ -652,10 +571,18 @@ pub all-fit : (lines : List (List ℕ)) (result : Result Script ScriptFault) →
 all-fit lines (Ok script) same = (script_of-written lines script same).fits
 all-fit lines (Err fault) same = tt
 
+-- the steps of a script are in their ranges
+abbrev StepsFit : Script → Type 0
+StepsFit script = All (FitsStep script.workload) script.steps
+
+pub all-steps : (lines : List (List ℕ)) (result : Result Script ScriptFault) → IfOk result (λ script. script_of lines ≡ Ok script) → IfOk result StepsFit
+all-steps lines (Ok script) same = (script_of-written lines script same).steps
+all-steps lines (Err fault) same = tt
+
 -- a script that is read yet
 abbrev IsBuiltScript : Script → Type 0
-IsBuiltScript script = (script.workload.dcs ≡ 1) × All (λ plan. All IsBuiltCommand plan.commands) script.workload.sessions
+IsBuiltScript script = All (λ plan. All IsBuiltCommand plan.commands) script.workload.sessions × All IsBuiltStep script.steps
 
 pub all-built : (lines : List (List ℕ)) (result : Result Script ScriptFault) → IfOk result (λ script. script_of lines ≡ Ok script) → IfOk result IsBuiltScript
-all-built lines (Ok script) same = let written = script_of-written lines script same in (written.one, written.commands)
+all-built lines (Ok script) same = let written = script_of-written lines script same in (written.commands, written.turns)
 all-built lines (Err fault) same = tt

@@ -1,13 +1,19 @@
 -- Lemmas on what lines say.
-use Rattle.std.proofs.Common.{◌≡◌, ◌<◌, ◌+◌, List, [], ◌∷◌, ◌++◌, length, length-append, refl, ap, sym, ◌∙◌, arith, false, nat_eq, ℕ}
+use Rattle.std.proofs.Common.{◌≡◌, ◌<◌, ◌+◌, List, [], ◌∷◌, ◌++◌, length, length-append, refl, ap, sym, ◌∙◌, arith, false, nat_eq, ℕ, ap₂}
 use Rattle.std.specs.Prelude.{nat_le, Ok}
 use Rattle.std.proofs.lemmas.Bool.Decides.{nat_tests}
 use Rattle.abstract_log.specs.declared.command.Command.{Command}
-use Rattle.abstract_log.specs.declared.command.Command.TheVariants.{Append}
+use Rattle.abstract_log.specs.declared.command.Command.TheVariants.{Append, Put}
 use Rattle.abstract_log.specs.declared.command.SessionPlan.{SessionPlan}
 use Rattle.script_text.specs.declared.progress.Progress.{Progress}
-use Rattle.script_text.specs.Reading.{body_at, names_in}
-use Rattle.script_text.specs.Meaning.{onto_last, with_command, append_line}
+use Rattle.abstract_log.specs.declared.script.Step.{Step}
+use Rattle.script_text.specs.declared.keyword.TurnWord.{TurnWord}
+use Rattle.script_text.specs.declared.arguments.Argument.{Argument}
+use Rattle.script_text.specs.declared.arguments.Arguments.{Arguments}
+use Rattle.script_text.specs.Keywords.{turn_arguments}
+use Rattle.script_text.specs.Reading.{body_at, name_at, names_in}
+use Rattle.script_text.specs.Arguments.{no_arguments, arguments_at, step_said}
+use Rattle.script_text.specs.Meaning.{onto_last, with_command, append_line, put_line, with_step, turn_line}
 
 -- a command goes to the session that stands last
 pub onto_last-last : (plans : List SessionPlan) (plan : SessionPlan) (command : Command)
@@ -36,3 +42,16 @@ pub append_line-read : (said : Progress) (left : List (List ℕ)) (body : List �
     → append_line said left ≡ with_command said (Append tags body)
 unfolding append_line
 append_line-read said left body more tags spelled named = rw (spelled, named) refl
+
+pub put_line-read : (said : Progress) (left : List (List ℕ)) (key body : List ℕ) (more rest : List (List ℕ)) → name_at left ≡ Ok (key, more) → body_at more ≡ Ok (body, rest)
+    → put_line said left ≡ with_command said (Put key body)
+unfolding put_line
+put_line-read said left key body more rest named spelled = rw (named, spelled) refl
+
+pub turn_line-read : (said : Progress) (word : TurnWord) (left : List (List ℕ)) (sessions : ℕ) (kinds : List Argument) (given : Arguments) (step : Step) → sessions ≡ length said.sessions → kinds ≡ turn_arguments word
+    → arguments_at said.dcs sessions no_arguments kinds left ≡ Ok given → step_said word given ≡ Ok step → turn_line said word left ≡ with_step said step
+unfolding turn_line
+turn_line-read said word left sessions kinds given step many table read says =
+    let read' : arguments_at said.dcs (length said.sessions) no_arguments (turn_arguments word) left ≡ Ok given
+    = ap₂ (λ (n : ℕ) (ks : List Argument). arguments_at said.dcs n no_arguments ks left) (sym many) (sym table) ∙ read in
+    rw (read', says) refl

@@ -1,6 +1,6 @@
 -- What is said so far keeps the ranges, line after line.
-use Rattle.std.proofs.Common.{◌≡◌, ◌<◌, ◌≤◌, ◌+◌, ◌-◌, ℕ, zero, suc, List, [], ◌∷◌, ◌++◌, length, length-append, refl, ap, sym, subst, ◌∙◌, arith, Bool, true, false, cond, not, ◌&&◌, ◌||◌, nat_eq, ◌⊎◌, inl, inr, All, get_or}
-use Rattle.std.specs.Prelude.{nat_le, nat_lt, Ok, Err, Result, Option, Some, None, is_none, drop, slice_index, IfSome}
+use Rattle.std.proofs.Common.{◌≡◌, ◌<◌, ◌≤◌, ◌+◌, ℕ, zero, suc, List, [], ◌∷◌, ◌++◌, length, length-append, refl, ap, sym, subst, ◌∙◌, arith, Bool, true, false, cond, not, ◌&&◌, ◌||◌, nat_eq, inl, inr, All, get_or}
+use Rattle.std.specs.Prelude.{nat_le, nat_lt, Ok, Option, Some, None, is_none, drop, IfSome}
 use Rattle.std.specs.List.{list_all, list_any, find}
 use Rattle.std.proofs.lemmas.Bool.Decides.{nat_tests}
 use Rattle.std.proofs.lemmas.List.Elements.{All-nil, All-cons, All-push, All-head, All-tail, All-get_or}
@@ -8,24 +8,29 @@ use Rattle.cz_base.specs.Text.{IsName, IsBody, first_bad, is_name_byte, is_body_
 use Rattle.abstract_log.specs.declared.command.Command.{Command}
 use Rattle.abstract_log.specs.declared.command.Command.TheVariants as command
 use Rattle.abstract_log.specs.declared.command.SessionPlan.{SessionPlan}
+use Rattle.abstract_log.specs.declared.command.Workload.{Workload}
 use Rattle.abstract_log.specs.declared.script.Sizes.{Sizes}
 use Rattle.abstract_log.specs.declared.script.Step.{Step}
 use Rattle.abstract_log.specs.Commands.{no_plan}
-use Rattle.script_text.specs.declared.fault.Cause.{Cause}
 use Rattle.script_text.specs.declared.keyword.Keyword.{Keyword}
 use Rattle.script_text.specs.declared.keyword.Keyword.TheVariants.{Chariots, Datacentres, Round, Stages, Session, Command as CommandLine, Steps, Turn, End}
 use Rattle.script_text.specs.declared.keyword.CommandWord.{CommandWord}
 use Rattle.script_text.specs.declared.keyword.CommandWord.TheVariants.{Append, Put, Get, Tx, Read, Last}
+use Rattle.script_text.specs.declared.keyword.TurnWord.{TurnWord}
 use Rattle.script_text.specs.declared.section.Section.{Section}
 use Rattle.script_text.specs.declared.section.Section.TheVariants as section
 use Rattle.script_text.specs.declared.progress.Progress.{Progress}
 use Rattle.script_text.specs.declared.progress.Stages.{Stages as StagesOf}
-use Rattle.script_text.specs.Words.{is_number, number_of, is_datacentre, is_name, is_body, words, is_line_byte, is_empty_word}
-use Rattle.script_text.specs.Reading.{◌>>=◌, number_in, number_at, datacentre_at, body_in, body_at, names_in}
-use Rattle.script_text.specs.Keywords.{keyword_of, stands, is_built, least_words, most_words, is_start, is_datacentres, is_round, is_stages, is_sessions, is_steps, is_ended}
-use Rattle.script_text.specs.Meaning.{start, chariots_line, datacentres_line, round_line, sizes_at, stages_line, session_line, onto_last, with_command, append_line, read_line, command_meaning, meaning, keyword_after, words_after, is_passed_over, line_after, is_given, sizes_found, sizes_given, sizes_upto, script_said, told}
+use Rattle.script_text.specs.Words.{is_number, number_of, is_name, is_body, words, is_line_byte, is_empty_word}
+use Rattle.script_text.specs.Reading.{number_in, number_at, datacentre_at, body_in, body_at, name_in, name_at, names_in}
+use Rattle.script_text.specs.Keywords.{keyword_of, stands, is_built, turn_arguments, least_words, most_words, is_start, is_datacentres, is_round, is_stages, is_sessions, is_steps, is_ended}
+use Rattle.script_text.specs.Meaning.{start, chariots_line, datacentres_line, round_line, sizes_at, stages_line, session_line, onto_last, with_command, append_line, put_line, read_line, turn_line, command_meaning, meaning, keyword_after, words_after, is_passed_over, line_after, is_given, sizes_found, sizes_given, sizes_upto, script_said}
 use Rattle.abstract_log.specs.Fits.{IsSize, FitsSizes, FitsCommand, FitsPlan, commands_of, FitsScript}
-use Rattle.script_text.specs.Spelled.{IsBuiltCommand, IsBuiltSizes, IsBuiltStages, AreGivenOnce}
+use Rattle.script_text.specs.Spelled.{IsBuiltCommand, IsBuiltSizes, IsBuiltStages, IsBuiltStep, AreGivenOnce}
+use Rattle.script_text.specs.Steps.{FitsStep}
+use Rattle.script_text.proofs.Going.{okay, okay-same, bind_ok, guard_ok, pass_ok, and_both, chosen, not_false, or_false, none_is}
+use Rattle.script_text.proofs.Spelling.{datacentre_takes}
+use Rattle.script_text.proofs.TurnLemmas.{load_of, turn_takes}
 
 -- where a section stands
 abbrev pub rank : Section → ℕ
@@ -83,6 +88,15 @@ rank-either section.Sessions h = omega arith
 rank-either section.Steps h = cc
 rank-either section.Ended h = cc
 
+pub rank-upto : (here : Section) → (is_stages here || is_sessions here) ≡ true → rank here ≤ 4
+rank-upto section.Start h = cc
+rank-upto section.Datacentres h = cc
+rank-upto section.Round h = cc
+rank-upto section.Stages h = omega arith
+rank-upto section.Sessions h = omega arith
+rank-upto section.Steps h = cc
+rank-upto section.Ended h = cc
+
 rank-sessions : (here : Section) → is_sessions here ≡ true → rank here ≡ 4
 rank-sessions section.Start h = cc
 rank-sessions section.Datacentres h = cc
@@ -110,51 +124,6 @@ rank-ended section.Sessions h = cc
 rank-ended section.Steps h = cc
 rank-ended section.Ended h = refl
 
--- a line or a word that is read
-abbrev pub okay : {A : Type 0} → A → Result A Cause
-okay x = Ok x
-
-pub okay-same : {A : Type 0} (x y : A) → okay x ≡ okay y → x ≡ y
-okay-same x y same = cc
-
--- a step of reading that went on
-pub bind_ok : {A B E : Type 0} (r : Result A E) (f : A → Result B E) (y : B) → (r >>= f) ≡ Ok y → (x : A) × ((r ≡ Ok x) × (f x ≡ Ok y))
-bind_ok (Ok x) f y same = (x, (refl, same))
-bind_ok (Err e) f y same = cc
-
--- a test that let it go on
-pub guard_ok : {A E : Type 0} (b : Bool) (e : E) (r : Result A E) (y : A) → cond b (Err e) r ≡ Ok y → (b ≡ false) × (r ≡ Ok y)
-guard_ok true e r y same = cc
-guard_ok false e r y same = (refl, same)
-
-pub pass_ok : {A E : Type 0} (b : Bool) (e : E) (r : Result A E) (y : A) → cond b r (Err e) ≡ Ok y → (b ≡ true) × (r ≡ Ok y)
-pass_ok true e r y same = (refl, same)
-pass_ok false e r y same = cc
-
-pub and_both : (a b : Bool) → (a && b) ≡ true → (a ≡ true) × (b ≡ true)
-and_both true b same = (refl, same)
-and_both false b same = cc
-
-pub chosen : {A : Type 0} (b : Bool) (x y z : A) → cond b x y ≡ z → (x ≡ z) ⊎ (y ≡ z)
-chosen true x y z same = inl same
-chosen false x y z same = inr same
-
-pub told_ok : (number : ℕ) (r : Result Progress Cause) (y : Progress) → told number r ≡ Ok y → r ≡ Ok y
-told_ok number (Ok x) y same = cc
-told_ok number (Err e) y same = cc
-
-pub not_false : (b : Bool) → not b ≡ false → b ≡ true
-not_false true h = refl
-not_false false h = cc
-
-pub or_false : (a b : Bool) → (a || b) ≡ false → (a ≡ false) × (b ≡ false)
-or_false true b same = cc
-or_false false b same = (refl, same)
-
-none_is : (o : Option ℕ) → is_none o ≡ true → o ≡ None
-none_is None h = refl
-none_is (Some n) h = cc
-
 -- What each kind of word keeps.
 
 pub record TakesNumber (least most : ℕ) (left : List (List ℕ)) (x : ℕ × List (List ℕ)) : Type 0 where
@@ -181,23 +150,6 @@ number_takes least most (word ∷ more) x same =
       most_is = omega (arith, high, value, first);
       shorter = omega (arith, ap (λ (ws : List (List ℕ)). length ws) second);
     }
-
-datacentre_below : (dcs : ℕ) (word : List ℕ) → is_datacentre dcs word ≡ true → slice_index word 0 - 65 < dcs
-datacentre_below dcs [] h = cc
-datacentre_below dcs (letter ∷ []) h =
-    let both = and_both (nat_le 65 letter && nat_lt letter (65 + dcs)) (nat_lt letter 73) h in
-    let first = and_both (nat_le 65 letter) (nat_lt letter (65 + dcs)) both.0 in
-    grind (arith, nat_tests, first.0, first.1)
-datacentre_below dcs (letter ∷ next ∷ more) h = cc
-
-datacentre_takes : (dcs : ℕ) (left : List (List ℕ)) (x : ℕ × List (List ℕ)) → datacentre_at dcs left ≡ Ok x → x.0 < dcs
-unfolding datacentre_at
-datacentre_takes dcs [] x same = cc
-datacentre_takes dcs (word ∷ more) x same =
-    let form = pass_ok (is_datacentre dcs word) _ _ x same in
-    let pair : (slice_index word 0 - 65, more) ≡ x = cc (form.1) in
-    let first : slice_index word 0 - 65 ≡ x.0 = ap (λ (p : ℕ × List (List ℕ)). p.0) pair in
-    omega (arith, datacentre_below dcs word form.0, first)
 
 body_is : (word : List ℕ) → is_body word ≡ true → IsBody (drop 1 word)
 body_is [] h = cc
@@ -248,42 +200,42 @@ one_is_size n one = (omega arith, omega arith)
 
 built_sizes-fit : (s : Sizes) → IsBuiltSizes s → FitsSizes s
 built_sizes-fit s built = record {
-  batchers = one_is_size s.batchers built.batchers;
-  filters = one_is_size s.filters built.filters;
-  queues = one_is_size s.queues built.queues;
+  batchers = built.batchers;
+  filters = built.filters;
+  queues = built.queues;
   maintainers = built.maintainers;
   indexers = one_is_size s.indexers built.indexers;
-  senders = one_is_size s.senders built.senders;
-  receivers = one_is_size s.receivers built.receivers;
+  senders = built.senders;
+  receivers = built.receivers;
 }
 
 sizes_take : (left : List (List ℕ)) (x : Sizes × List (List ℕ)) → sizes_at left ≡ Ok x → IsBuiltSizes x.0
 unfolding sizes_at
 sizes_take left x same =
-    let one = bind_ok (number_at 1 1 left) _ x same in
-    let two = bind_ok (number_at 1 1 one.0.1) _ x one.1.1 in
-    let three = bind_ok (number_at 1 1 two.0.1) _ x two.1.1 in
+    let one = bind_ok (number_at 1 16 left) _ x same in
+    let two = bind_ok (number_at 1 16 one.0.1) _ x one.1.1 in
+    let three = bind_ok (number_at 1 16 two.0.1) _ x two.1.1 in
     let four = bind_ok (number_at 1 16 three.0.1) _ x three.1.1 in
     let five = bind_ok (number_at 1 1 four.0.1) _ x four.1.1 in
-    let six = bind_ok (number_at 1 1 five.0.1) _ x five.1.1 in
-    let seven = bind_ok (number_at 1 1 six.0.1) _ x six.1.1 in
-    let a = number_takes 1 1 left one.0 one.1.0 in
-    let b = number_takes 1 1 one.0.1 two.0 two.1.0 in
-    let c = number_takes 1 1 two.0.1 three.0 three.1.0 in
+    let six = bind_ok (number_at 1 16 five.0.1) _ x five.1.1 in
+    let seven = bind_ok (number_at 1 16 six.0.1) _ x six.1.1 in
+    let a = number_takes 1 16 left one.0 one.1.0 in
+    let b = number_takes 1 16 one.0.1 two.0 two.1.0 in
+    let c = number_takes 1 16 two.0.1 three.0 three.1.0 in
     let d = number_takes 1 16 three.0.1 four.0 four.1.0 in
     let e = number_takes 1 1 four.0.1 five.0 five.1.0 in
-    let f = number_takes 1 1 five.0.1 six.0 six.1.0 in
-    let g = number_takes 1 1 six.0.1 seven.0 seven.1.0 in
+    let f = number_takes 1 16 five.0.1 six.0 six.1.0 in
+    let g = number_takes 1 16 six.0.1 seven.0 seven.1.0 in
     let made : Sizes = record { batchers = one.0.0; filters = two.0.0; queues = three.0.0; maintainers = four.0.0; indexers = five.0.0; senders = six.0.0; receivers = seven.0.0 } in
     let pair : (made, seven.0.1) ≡ x = okay-same (made, seven.0.1) x seven.1.1 in
     let built : IsBuiltSizes made = record {
-      batchers = omega (arith, a.least_is, a.most_is);
-      filters = omega (arith, b.least_is, b.most_is);
-      queues = omega (arith, c.least_is, c.most_is);
+      batchers = (a.least_is, a.most_is);
+      filters = (b.least_is, b.most_is);
+      queues = (c.least_is, c.most_is);
       maintainers = (d.least_is, d.most_is);
       indexers = omega (arith, e.least_is, e.most_is);
-      senders = omega (arith, f.least_is, f.most_is);
-      receivers = omega (arith, g.least_is, g.most_is);
+      senders = (f.least_is, f.most_is);
+      receivers = (g.least_is, g.most_is);
     } in
     subst (λ (p : Sizes × List (List ℕ)). IsBuiltSizes p.0) pair built
 
@@ -304,9 +256,11 @@ pub record IsSound (said : Progress) : Type 0 where
   pub plans : All (FitsPlan said.dcs) said.sessions
   pub counted : said.commands ≡ commands_of said.sessions
   pub within : said.commands ≤ 16384
-  pub steps : said.steps ≡ []
-  pub one : 2 ≤ rank said.section → said.dcs ≡ 1
   pub built : All IsBuiltPlan said.sessions
+  pub idle : rank said.section ≤ 4 → said.steps ≡ []
+  pub steps : All (FitsStep (load_of said)) said.steps
+  pub turns : All IsBuiltStep said.steps
+  pub short : length said.steps ≤ 65536
 
 pub start-sound : IsSound start
 start-sound = record {
@@ -320,9 +274,11 @@ start-sound = record {
   plans = All-nil (FitsPlan 0);
   counted = refl;
   within = omega arith;
-  steps = refl;
-  one = λ h. absurd (omega arith);
   built = All-nil IsBuiltPlan;
+  idle = λ h. refl;
+  steps = All-nil (FitsStep (load_of start));
+  turns = All-nil IsBuiltStep;
+  short = omega arith;
 }
 
 -- the sizes of a datacentre that no line gave so far
@@ -354,6 +310,10 @@ none_given dcs stages none = subst (λ (gs : List StagesOf). All (IsBuiltStages 
 none_fits : (dcs : ℕ) (plans : List SessionPlan) → plans ≡ [] → All (FitsPlan dcs) plans
 none_fits dcs plans none = subst (λ (ps : List SessionPlan). All (FitsPlan dcs) ps) (sym none) (All-nil (FitsPlan dcs))
 
+-- where no step has been said, all steps keep anything
+none_steps : (load : Workload) (steps : List Step) → steps ≡ [] → All (FitsStep load) steps
+none_steps load steps none = subst (λ (ts : List Step). All (FitsStep load) ts) (sym none) (All-nil (FitsStep load))
+
 chariots-sound : (said after : Progress) (left : List (List ℕ)) → rank said.section ≡ 0 → IsSound said → chariots_line said left ≡ Ok after → IsSound after
 unfolding chariots_line
 chariots-sound said after left here sound same =
@@ -370,19 +330,21 @@ chariots-sound said after left here sound same =
       plans = sound.plans;
       counted = sound.counted;
       within = sound.within;
-      steps = sound.steps;
-      one = λ h. absurd (omega arith);
       built = sound.built;
+      idle = λ h. sound.idle (omega arith);
+      steps = sound.steps;
+      turns = sound.turns;
+      short = sound.short;
     })
 
 datacentres-sound : (said after : Progress) (left : List (List ℕ)) → rank said.section ≡ 1 → IsSound said → datacentres_line said left ≡ Ok after → IsSound after
 unfolding datacentres_line
 datacentres-sound said after left here sound same =
-    let read = bind_ok (number_at 1 1 left) _ after same in
-    let n = number_takes 1 1 left read.0 read.1.0 in
+    let read = bind_ok (number_at 1 8 left) _ after same in
+    let n = number_takes 1 8 left read.0 read.1.0 in
     let is : record said { dcs = read.0.0; section = section.Round } ≡ after = cc (read.1.1) in
     subst IsSound is (record {
-      dcs = λ h. (n.least_is, omega (arith, n.most_is));
+      dcs = λ h. (n.least_is, n.most_is);
       round = λ h. absurd (omega arith);
       begun = λ h. sound.begun (omega arith);
       bare = λ h. sound.bare (omega arith);
@@ -392,9 +354,11 @@ datacentres-sound said after left here sound same =
       plans = none_fits read.0.0 said.sessions (sound.begun (omega arith));
       counted = sound.counted;
       within = sound.within;
-      steps = sound.steps;
-      one = λ h. omega (arith, n.least_is, n.most_is);
       built = sound.built;
+      idle = λ h. sound.idle (omega arith);
+      steps = none_steps (load_of (record said { dcs = read.0.0; section = section.Round })) said.steps (sound.idle (omega arith));
+      turns = sound.turns;
+      short = sound.short;
     })
 
 round-sound : (said after : Progress) (left : List (List ℕ)) → rank said.section ≡ 2 → IsSound said → round_line said left ≡ Ok after → IsSound after
@@ -414,9 +378,11 @@ round-sound said after left here sound same =
       plans = sound.plans;
       counted = sound.counted;
       within = sound.within;
-      steps = sound.steps;
-      one = λ h. sound.one (omega arith);
       built = sound.built;
+      idle = λ h. sound.idle (omega arith);
+      steps = sound.steps;
+      turns = sound.turns;
+      short = sound.short;
     })
 
 stages-sound : (said after : Progress) (left : List (List ℕ)) → rank said.section ≡ 3 → IsSound said → stages_line said left ≡ Ok after → IsSound after
@@ -438,18 +404,20 @@ stages-sound said after left here sound same =
       plans = sound.plans;
       counted = sound.counted;
       within = sound.within;
-      steps = sound.steps;
-      one = sound.one;
       built = sound.built;
+      idle = λ h. sound.idle (omega arith);
+      steps = sound.steps;
+      turns = sound.turns;
+      short = sound.short;
     })
 
 commands_of-push : (plans : List SessionPlan) (home : ℕ) → commands_of (plans ++ record { home = home; commands = [] } ∷ []) ≡ commands_of plans
 commands_of-push [] home = refl
 commands_of-push (plan ∷ more) home = ap (λ n. length plan.commands + n) (commands_of-push more home)
 
-session-sound : (said after : Progress) (left : List (List ℕ)) → 3 ≤ rank said.section → IsSound said → session_line said left ≡ Ok after → IsSound after
+session-sound : (said after : Progress) (left : List (List ℕ)) → 3 ≤ rank said.section → rank said.section ≤ 4 → IsSound said → session_line said left ≡ Ok after → IsSound after
 unfolding session_line
-session-sound said after left here sound same =
+session-sound said after left here early sound same =
     let home = bind_ok (datacentre_at said.dcs left) _ after same in
     let room = guard_ok (nat_eq (length said.sessions) 64) _ _ after home.1.1 in
     let other : nat_eq (length said.sessions) 64 ≡ false = room.0 in
@@ -467,9 +435,11 @@ session-sound said after left here sound same =
       plans = All-push (FitsPlan said.dcs) said.sessions plan sound.plans (record { home = datacentre_takes said.dcs left home.0 home.1.0; commands = All-nil FitsCommand });
       counted = sound.counted ∙ sym (commands_of-push said.sessions home.0.0);
       within = sound.within;
-      steps = sound.steps;
-      one = λ h. sound.one (omega arith);
       built = All-push IsBuiltPlan said.sessions plan sound.built (All-nil IsBuiltCommand);
+      idle = λ h. sound.idle early;
+      steps = none_steps (load_of (record said { sessions = said.sessions ++ plan ∷ []; section = section.Sessions })) said.steps (sound.idle early);
+      turns = sound.turns;
+      short = sound.short;
     })
 
 onto_last-fits : (dcs : ℕ) (plans : List SessionPlan) (c : Command) → FitsCommand c → All (FitsPlan dcs) plans → All (FitsPlan dcs) (onto_last plans c)
@@ -520,9 +490,11 @@ command-sound said after c here fits now sound same =
       plans = onto_last-fits said.dcs said.sessions c fits sound.plans;
       counted = omega (arith, commands_of-onto_last said.sessions c some, sound.counted);
       within = omega (arith, fewer);
-      steps = sound.steps;
-      one = sound.one;
       built = onto_last-built said.sessions c now sound.built;
+      idle = λ h. sound.idle (omega arith);
+      steps = none_steps (load_of (record said { sessions = onto_last said.sessions c; commands = said.commands + 1 })) said.steps (sound.idle (omega arith));
+      turns = sound.turns;
+      short = sound.short;
     })
 
 append-sound : (said after : Progress) (left : List (List ℕ)) → rank said.section ≡ 4 → length left ≤ 9 → IsSound said → append_line said left ≡ Ok after → IsSound after
@@ -535,6 +507,23 @@ append-sound said after left here few sound same =
     let short : length tags.0 ≤ 8 = omega (arith, taken.shorter, ap (λ (ws : List (List ℕ)). length ws) named.0, few) in
     command-sound said after (command.Append tags.0 body.0.0) here (short, (subst (λ (ws : List (List ℕ)). All IsName ws) named.0 named.1, taken.body)) tt sound tags.1.1
 
+name_takes : (left : List (List ℕ)) (x : List ℕ × List (List ℕ)) → name_at left ≡ Ok x → IsName x.0
+unfolding name_at
+name_takes [] x same = cc
+name_takes (word ∷ more) x same =
+    let bound = bind_ok (name_in word) (λ name. Ok (name, more)) x same in
+    let form = pass_ok (is_name word) _ _ bound.0 bound.1.0 in
+    let value : word ≡ bound.0 = okay-same word bound.0 form.1 in
+    let pair : (bound.0, more) ≡ x = okay-same (bound.0, more) x bound.1.1 in
+    subst (λ (name : List ℕ). IsName name) (value ∙ ap (λ (p : List ℕ × List (List ℕ)). p.0) pair) (name_is word form.0)
+
+put-sound : (said after : Progress) (left : List (List ℕ)) → rank said.section ≡ 4 → IsSound said → put_line said left ≡ Ok after → IsSound after
+unfolding put_line
+put-sound said after left here sound same =
+    let key = bind_ok (name_at left) _ after same in
+    let body = bind_ok (body_at key.0.1) _ after key.1.1 in
+    command-sound said after (command.Put key.0.0 body.0.0) here (name_takes left key.0 key.1.0, (body_takes key.0.1 body.0 body.1.0).body) tt sound body.1.1
+
 read-sound : (said after : Progress) (left : List (List ℕ)) → rank said.section ≡ 4 → IsSound said → read_line said left ≡ Ok after → IsSound after
 unfolding read_line
 read-sound said after left here sound same =
@@ -544,14 +533,14 @@ read-sound said after left here sound same =
 
 command_line-sound : (said after : Progress) (word : CommandWord) (left : List (List ℕ)) → rank said.section ≡ 4 → length left ≤ most_words (CommandLine word) → IsSound said → command_meaning said word left ≡ Ok after → IsSound after
 command_line-sound said after Append left here few sound same = append-sound said after left here few sound same
-command_line-sound said after Put left here few sound same = cc
+command_line-sound said after Put left here few sound same = put-sound said after left here sound same
 command_line-sound said after Get left here few sound same = cc
 command_line-sound said after Tx left here few sound same = cc
 command_line-sound said after Read left here few sound same = read-sound said after left here sound same
 command_line-sound said after Last left here few sound same = cc
 
 -- a line that only goes on to a later section
-section-sound : (said after : Progress) (next : Section) → 3 ≤ rank said.section → 4 ≤ rank next → IsSound said → okay (record said { section = next }) ≡ okay after → IsSound after
+section-sound : (said after : Progress) (next : Section) → 3 ≤ rank said.section → 5 ≤ rank next → IsSound said → okay (record said { section = next }) ≡ okay after → IsSound after
 section-sound said after next here later sound same =
     let is : record said { section = next } ≡ after = cc (same) in
     subst IsSound is (record {
@@ -565,9 +554,32 @@ section-sound said after next here later sound same =
       plans = sound.plans;
       counted = sound.counted;
       within = sound.within;
-      steps = sound.steps;
-      one = λ h. sound.one (omega arith);
       built = sound.built;
+      idle = λ h. absurd (omega arith);
+      steps = sound.steps;
+      turns = sound.turns;
+      short = sound.short;
+    })
+
+turn-sound : (said after : Progress) (word : TurnWord) (left : List (List ℕ)) → rank said.section ≡ 5 → length left ≤ length (turn_arguments word) → IsSound said → turn_line said word left ≡ Ok after → IsSound after
+turn-sound said after word left here few sound same =
+    let takes = turn_takes said after word left few same in
+    subst IsSound takes.is (record {
+      dcs = sound.dcs;
+      round = sound.round;
+      begun = sound.begun;
+      bare = sound.bare;
+      given = sound.given;
+      once = sound.once;
+      few = sound.few;
+      plans = sound.plans;
+      counted = sound.counted;
+      within = sound.within;
+      built = sound.built;
+      idle = λ h. absurd (omega arith);
+      steps = All-push (FitsStep (load_of said)) said.steps takes.step sound.steps takes.turn.fits;
+      turns = All-push IsBuiltStep said.steps takes.step sound.turns takes.turn.built;
+      short = omega (arith, length-append said.steps (takes.step ∷ []), takes.room);
     })
 
 meaning-sound : (said after : Progress) (keyword : Keyword) (left : List (List ℕ)) → stands keyword said.section ≡ true → length left ≤ most_words keyword → IsSound said → meaning said keyword left ≡ Ok after → IsSound after
@@ -575,10 +587,10 @@ meaning-sound said after Chariots left here few sound same = chariots-sound said
 meaning-sound said after Datacentres left here few sound same = datacentres-sound said after left (rank-datacentres said.section here) sound same
 meaning-sound said after Round left here few sound same = round-sound said after left (rank-round said.section here) sound same
 meaning-sound said after Stages left here few sound same = stages-sound said after left (rank-stages said.section here) sound same
-meaning-sound said after Session left here few sound same = session-sound said after left (rank-either said.section here) sound same
+meaning-sound said after Session left here few sound same = session-sound said after left (rank-either said.section here) (rank-upto said.section here) sound same
 meaning-sound said after (CommandLine word) left here few sound same = command_line-sound said after word left (rank-sessions said.section here) few sound same
 meaning-sound said after Steps left here few sound same = section-sound said after section.Steps (rank-either said.section here) (omega arith) sound same
-meaning-sound said after (Turn word) left here few sound same = cc
+meaning-sound said after (Turn word) left here few sound same = turn-sound said after word left (rank-steps said.section here) few sound same
 meaning-sound said after End left here few sound same = section-sound said after section.Ended (omega (arith, rank-steps said.section here)) (omega arith) sound same
 
 keyword-sound : (said after : Progress) (keyword : Option Keyword) (left : List (List ℕ)) → IsSound said → keyword_after said keyword left ≡ Ok after → IsSound after
@@ -643,5 +655,5 @@ said-fits said sound here =
       round = sound.round here;
       each = length-sizes_upto said.stages said.dcs;
       sizes = sizes_upto-fits said.stages said.dcs (λ k d within. built_sizes-fit (get_or said.stages k d).sizes (sound.given k d within).sizes);
-      steps = omega (arith, ap (λ (steps : List Step). length steps) sound.steps);
+      steps = sound.short;
     }

@@ -1,5 +1,5 @@
 -- The table of lines: the word that begins each, where it may stand, and how many words it has.
-use Rattle.std.specs.Prelude.{ℕ, ◌||◌, Bool, true, false, Option, List, [], ◌∷◌, codes, bytes_eq}
+use Rattle.std.specs.Prelude.{ℕ, ◌||◌, Bool, true, false, Option, List, [], ◌∷◌, length, codes, bytes_eq}
 use Rattle.std.specs.List.{find}
 use Rattle.script_text.specs.declared.section.Section.{Section}
 use Rattle.script_text.specs.declared.section.Section.TheVariants as section
@@ -9,6 +9,8 @@ use Rattle.script_text.specs.declared.keyword.CommandWord.{CommandWord}
 use Rattle.script_text.specs.declared.keyword.CommandWord.TheVariants.{Append, Put, Get, Tx, Read, Last}
 use Rattle.script_text.specs.declared.keyword.TurnWord.{TurnWord}
 use Rattle.script_text.specs.declared.keyword.TurnWord.TheVariants.{Client, Flush, Pass, Stamp, Token, Place, Gossip, Post, Learn, Send, Deliver, Lose, Copy, Floor, Collect, Announce, Mark, AddMaintainer, AddBatcher, AddQueue, AddSender, AddReceiver}
+use Rattle.script_text.specs.declared.arguments.Argument.{Argument}
+use Rattle.script_text.specs.declared.arguments.Argument.TheVariants as argument
 
 abbrev pub command_text : CommandWord → List ℕ
 command_text Append = codes "append"
@@ -108,16 +110,65 @@ stands End here = is_steps here
 -- which lines are read yet
 abbrev pub command_is_built : CommandWord → Bool
 command_is_built Append = true
-command_is_built Put = false
+command_is_built Put = true
 command_is_built Get = false
 command_is_built Tx = false
 command_is_built Read = true
 command_is_built Last = false
 
+abbrev pub turn_is_built : TurnWord → Bool
+turn_is_built Client = true
+turn_is_built Flush = true
+turn_is_built Pass = true
+turn_is_built Stamp = true
+turn_is_built Token = true
+turn_is_built Place = true
+turn_is_built Gossip = true
+turn_is_built Post = false
+turn_is_built Learn = true
+turn_is_built Send = true
+turn_is_built Deliver = true
+turn_is_built Lose = true
+turn_is_built Copy = true
+turn_is_built Floor = false
+turn_is_built Collect = false
+turn_is_built Announce = false
+turn_is_built Mark = false
+turn_is_built AddMaintainer = false
+turn_is_built AddBatcher = false
+turn_is_built AddQueue = false
+turn_is_built AddSender = false
+turn_is_built AddReceiver = false
+
 abbrev pub is_built : Keyword → Bool
 is_built (Command word) = command_is_built word
-is_built (Turn word) = false
+is_built (Turn word) = turn_is_built word
 is_built _ = true
+
+-- The words after the first of each step line that is read yet.
+abbrev pub turn_arguments : TurnWord → List Argument
+turn_arguments Client = argument.Session ∷ []
+turn_arguments Flush = argument.Datacentre ∷ argument.Member ∷ []
+turn_arguments Pass = argument.Datacentre ∷ argument.Member ∷ argument.Second ∷ []
+turn_arguments Stamp = argument.Datacentre ∷ argument.Member ∷ []
+turn_arguments Token = argument.Datacentre ∷ []
+turn_arguments Place = argument.Datacentre ∷ argument.Member ∷ argument.Second ∷ []
+turn_arguments Gossip = argument.Datacentre ∷ argument.Member ∷ argument.Second ∷ []
+turn_arguments Post = []
+turn_arguments Learn = argument.Datacentre ∷ []
+turn_arguments Send = argument.Datacentre ∷ argument.Member ∷ argument.Other ∷ []
+turn_arguments Deliver = argument.Datacentre ∷ argument.Other ∷ argument.Packet ∷ argument.Member ∷ []
+turn_arguments Lose = argument.Datacentre ∷ argument.Other ∷ argument.Packet ∷ []
+turn_arguments Copy = argument.Datacentre ∷ argument.Other ∷ argument.Packet ∷ []
+turn_arguments Floor = []
+turn_arguments Collect = []
+turn_arguments Announce = []
+turn_arguments Mark = []
+turn_arguments AddMaintainer = []
+turn_arguments AddBatcher = []
+turn_arguments AddQueue = []
+turn_arguments AddSender = []
+turn_arguments AddReceiver = []
 
 -- how many words follow the first, at least and at most
 abbrev pub least_command_words : CommandWord → ℕ
@@ -144,7 +195,7 @@ least_words Stages = 8
 least_words Session = 1
 least_words (Command word) = least_command_words word
 least_words Steps = 0
-least_words (Turn word) = 0
+least_words (Turn word) = length (turn_arguments word)
 least_words End = 0
 
 abbrev pub most_words : Keyword → ℕ
@@ -155,5 +206,5 @@ most_words Stages = 8
 most_words Session = 1
 most_words (Command word) = most_command_words word
 most_words Steps = 0
-most_words (Turn word) = 0
+most_words (Turn word) = length (turn_arguments word)
 most_words End = 0

@@ -6,6 +6,7 @@ use Rattle.abstract_log.specs.declared.command.Command.TheVariants as command
 use Rattle.abstract_log.specs.declared.command.SessionPlan.{SessionPlan}
 use Rattle.abstract_log.specs.declared.script.Script.{Script}
 use Rattle.abstract_log.specs.declared.script.Sizes.{Sizes}
+use Rattle.abstract_log.specs.declared.script.Step.{Step}
 use Rattle.script_text.specs.declared.fault.Cause.{Cause}
 use Rattle.script_text.specs.declared.fault.Cause.TheVariants.{BadByte, BadSpacing, AfterEnd, UnknownWord, OutOfPlace, NotBuilt, WrongWords, GivenTwice, TooMany, TooShort}
 use Rattle.script_text.specs.declared.fault.ScriptFault.{ScriptFault}
@@ -14,12 +15,14 @@ use Rattle.script_text.specs.declared.keyword.Keyword.{Keyword}
 use Rattle.script_text.specs.declared.keyword.Keyword.TheVariants.{Chariots, Datacentres, Round, Stages, Session, Command, Steps, Turn, End}
 use Rattle.script_text.specs.declared.keyword.CommandWord.{CommandWord}
 use Rattle.script_text.specs.declared.keyword.CommandWord.TheVariants.{Append, Put, Get, Tx, Read, Last}
+use Rattle.script_text.specs.declared.keyword.TurnWord.{TurnWord}
 use Rattle.script_text.specs.declared.section.Section.TheVariants as section
 use Rattle.script_text.specs.declared.progress.Progress.{Progress}
 use Rattle.script_text.specs.declared.progress.Stages.{Stages as StagesOf}
 use Rattle.script_text.specs.Words.{words, is_line_byte, is_empty_word}
-use Rattle.script_text.specs.Keywords.{keyword_of, stands, is_built, least_words, most_words, is_ended}
-use Rattle.script_text.specs.Reading.{◌>>=◌, number_at, datacentre_at, body_at, names_in}
+use Rattle.script_text.specs.Keywords.{keyword_of, stands, is_built, turn_arguments, least_words, most_words, is_ended}
+use Rattle.script_text.specs.Reading.{◌>>=◌, number_at, datacentre_at, body_at, name_at, names_in}
+use Rattle.script_text.specs.Arguments.{no_arguments, arguments_at, step_said}
 
 -- nothing has been said
 abbrev pub start : Progress
@@ -34,7 +37,7 @@ chariots_line said rest = do
 
 unfoldable pub datacentres_line : Progress → List (List ℕ) → Result Progress Cause
 datacentres_line said rest = do
-  dcs ← number_at 1 1 rest
+  dcs ← number_at 1 8 rest
   Ok (record said { dcs = dcs.0; section = section.Round })
 
 unfoldable pub round_line : Progress → List (List ℕ) → Result Progress Cause
@@ -45,13 +48,13 @@ round_line said rest = do
 -- how many batchers, filters, queues, maintainers, indexers, senders and receivers there are
 unfoldable pub sizes_at : List (List ℕ) → Result (Sizes × List (List ℕ)) Cause
 sizes_at rest = do
-  batchers ← number_at 1 1 rest
-  filters ← number_at 1 1 batchers.1
-  queues ← number_at 1 1 filters.1
+  batchers ← number_at 1 16 rest
+  filters ← number_at 1 16 batchers.1
+  queues ← number_at 1 16 filters.1
   maintainers ← number_at 1 16 queues.1
   indexers ← number_at 1 1 maintainers.1
-  senders ← number_at 1 1 indexers.1
-  receivers ← number_at 1 1 senders.1
+  senders ← number_at 1 16 indexers.1
+  receivers ← number_at 1 16 senders.1
   Ok (record { batchers = batchers.0; filters = filters.0; queues = queues.0; maintainers = maintainers.0; indexers = indexers.0; senders = senders.0; receivers = receivers.0 }, receivers.1)
 
 abbrev pub is_given : List StagesOf → ℕ → Bool
@@ -85,6 +88,12 @@ append_line said rest = do
   tags ← names_in body.1
   with_command said (command.Append tags body.0)
 
+unfoldable pub put_line : Progress → List (List ℕ) → Result Progress Cause
+put_line said rest = do
+  key ← name_at rest
+  body ← body_at key.1
+  with_command said (command.Put key.0 body.0)
+
 unfoldable pub read_line : Progress → List (List ℕ) → Result Progress Cause
 read_line said rest = do
   lid ← number_at 1 4294967295 rest
@@ -93,11 +102,22 @@ read_line said rest = do
 -- the commands
 abbrev pub command_meaning : Progress → CommandWord → List (List ℕ) → Result Progress Cause
 command_meaning said Append rest = append_line said rest
-command_meaning said Put rest = Err NotBuilt
+command_meaning said Put rest = put_line said rest
 command_meaning said Get rest = Err NotBuilt
 command_meaning said Tx rest = Err NotBuilt
 command_meaning said Read rest = read_line said rest
 command_meaning said Last rest = Err NotBuilt
+
+-- at most 65,536 steps
+unfoldable pub with_step : Progress → Step → Result Progress Cause
+with_step said step = if nat_le 65536 (length said.steps) then Err TooMany else Ok (record said { steps = said.steps ++ step ∷ [] })
+
+-- the step lines
+unfoldable pub turn_line : Progress → TurnWord → List (List ℕ) → Result Progress Cause
+turn_line said word rest = do
+  given ← arguments_at said.dcs (length said.sessions) no_arguments (turn_arguments word) rest
+  step ← step_said word given
+  with_step said step
 
 -- all lines
 abbrev pub meaning : Progress → Keyword → List (List ℕ) → Result Progress Cause
@@ -108,7 +128,7 @@ meaning said Stages rest = stages_line said rest
 meaning said Session rest = session_line said rest
 meaning said (Command word) rest = command_meaning said word rest
 meaning said Steps rest = Ok (record said { section = section.Steps })
-meaning said (Turn word) rest = Err NotBuilt
+meaning said (Turn word) rest = turn_line said word rest
 meaning said End rest = Ok (record said { section = section.Ended })
 
 -- a line by its first word and the words after it, with the first cause that applies

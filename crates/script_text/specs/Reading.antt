@@ -1,5 +1,5 @@
 -- The words of a line, read from left to right up to the first that is bad.
-use Rattle.std.specs.Prelude.{◌≡◌, ℕ, ◌-◌, ◌&&◌, nat_le, List, [], ◌∷◌, drop, slice_index, if◌then◌else◌, Result, Ok, Err}
+use Rattle.std.specs.Prelude.{◌≡◌, ◌==◌, ℕ, ◌-◌, ◌&&◌, nat_le, nat_lt, List, [], ◌∷◌, drop, slice_index, if◌then◌else◌, Result, Ok, Err}
 use Rattle.std.specs.List.{list_all}
 use Rattle.script_text.specs.declared.fault.Cause.{Cause}
 use Rattle.script_text.specs.declared.fault.Cause.TheVariants.{WrongWords, BadDatacentre, BadNumber, OutOfRange, BadName, BadBody}
@@ -31,9 +31,21 @@ number_at least most (word ∷ more) = do
   n ← number_in least most word
   Ok (n, more)
 
+-- a number below a limit
+unfoldable pub number_below_at : ℕ → List (List ℕ) → Result (ℕ × List (List ℕ)) Cause
+number_below_at limit left = do
+  n ← number_at 0 4294967295 left
+  if nat_lt n.0 limit then Ok n else Err OutOfRange
+
 unfoldable pub datacentre_at : ℕ → List (List ℕ) → Result (ℕ × List (List ℕ)) Cause
 datacentre_at dcs [] = Err WrongWords
 datacentre_at dcs (word ∷ more) = if is_datacentre dcs word then Ok (slice_index word 0 - 65, more) else Err BadDatacentre
+
+-- a datacentre other than the first
+unfoldable pub other_datacentre_at : ℕ → ℕ → List (List ℕ) → Result (ℕ × List (List ℕ)) Cause
+other_datacentre_at dcs first left = do
+  dc ← datacentre_at dcs left
+  if dc.0 == first then Err BadDatacentre else Ok dc
 
 abbrev pub body_in : List ℕ → Result (List ℕ) Cause
 body_in word = if is_body word then Ok (drop 1 word) else Err BadBody
@@ -46,6 +58,12 @@ body_at (word ∷ more) = do
 
 abbrev pub name_in : List ℕ → Result (List ℕ) Cause
 name_in word = if is_name word then Ok word else Err BadName
+
+unfoldable pub name_at : List (List ℕ) → Result (List ℕ × List (List ℕ)) Cause
+name_at [] = Err WrongWords
+name_at (word ∷ more) = do
+  name ← name_in word
+  Ok (name, more)
 
 -- the words to the end of the line, each a name
 unfoldable pub names_in : List (List ℕ) → Result (List (List ℕ)) Cause

@@ -7,9 +7,12 @@ use Rattle.abstract_log.specs.declared.command.Command.TheVariants.{Append, Put,
 use Rattle.abstract_log.specs.declared.command.SessionPlan.{SessionPlan}
 use Rattle.abstract_log.specs.declared.script.Script.{Script}
 use Rattle.abstract_log.specs.declared.script.Sizes.{Sizes}
+use Rattle.abstract_log.specs.declared.script.Step.{Step}
+use Rattle.abstract_log.specs.declared.script.Step.TheVariants as step
 use Rattle.script_text.specs.declared.progress.Stages.{Stages}
 use Rattle.script_text.specs.Words.{words, is_line_byte}
 use Rattle.abstract_log.specs.Fits.{IsSize, FitsScript}
+use Rattle.script_text.specs.Steps.{FitsStep}
 use Rattle.script_text.specs.Meaning.{is_passed_over, is_given, sizes_upto}
 
 -- the letter of a datacentre
@@ -44,6 +47,31 @@ datacentres_words dcs = codes "datacentres" ∷ decimal dcs ∷ []
 abbrev pub round_words : ℕ → List (List ℕ)
 round_words round = codes "round" ∷ decimal round ∷ []
 
+-- The step lines.
+abbrev pub turn_words : Step → List (List ℕ)
+turn_words (step.Client s) = codes "client" ∷ decimal s ∷ []
+turn_words (step.Flush d b) = codes "flush" ∷ letter d ∷ decimal b ∷ []
+turn_words (step.Pass d f q) = codes "pass" ∷ letter d ∷ decimal f ∷ decimal q ∷ []
+turn_words (step.Stamp d q) = codes "stamp" ∷ letter d ∷ decimal q ∷ []
+turn_words (step.Token d) = codes "token" ∷ letter d ∷ []
+turn_words (step.Place d q m) = codes "place" ∷ letter d ∷ decimal q ∷ decimal m ∷ []
+turn_words (step.Gossip d m k) = codes "gossip" ∷ letter d ∷ decimal m ∷ decimal k ∷ []
+turn_words (step.Post d m i) = codes "post" ∷ letter d ∷ decimal m ∷ decimal i ∷ []
+turn_words (step.Learn d) = codes "learn" ∷ letter d ∷ []
+turn_words (step.Send d k e) = codes "send" ∷ letter d ∷ decimal k ∷ letter e ∷ []
+turn_words (step.Deliver d e k r) = codes "deliver" ∷ letter d ∷ letter e ∷ decimal k ∷ decimal r ∷ []
+turn_words (step.Lose d e k) = codes "lose" ∷ letter d ∷ letter e ∷ decimal k ∷ []
+turn_words (step.Copy d e k) = codes "copy" ∷ letter d ∷ letter e ∷ decimal k ∷ []
+turn_words (step.Floor d p) = codes "floor" ∷ letter d ∷ decimal p ∷ []
+turn_words (step.Collect d m) = codes "collect" ∷ letter d ∷ decimal m ∷ []
+turn_words (step.Announce d h t) = codes "announce" ∷ letter d ∷ letter h ∷ decimal t ∷ []
+turn_words (step.Mark d) = codes "mark" ∷ letter d ∷ []
+turn_words (step.AddMaintainer d p) = codes "addmaintainer" ∷ letter d ∷ decimal p ∷ []
+turn_words (step.AddBatcher d) = codes "addbatcher" ∷ letter d ∷ []
+turn_words (step.AddQueue d) = codes "addqueue" ∷ letter d ∷ []
+turn_words (step.AddSender d) = codes "addsender" ∷ letter d ∷ []
+turn_words (step.AddReceiver d) = codes "addreceiver" ∷ letter d ∷ []
+
 -- all before `steps`
 unfoldable pub before_steps : ℕ → ℕ → List Stages → List SessionPlan → List (List (List ℕ))
 before_steps dcs round stages plans = first_words ∷ datacentres_words dcs ∷ round_words round ∷ (map stages_words stages ++ flat_map plan_lines plans)
@@ -63,29 +91,53 @@ said_words (line ∷ more) = if is_passed_over line then said_words more else wo
 pub record Spells (script : Script) (lines : List (List ℕ)) : Type 0 where
   pub stages : List Stages
   pub sizes : script.sizes ≡ sizes_upto stages script.workload.dcs
-  pub steps : script.steps ≡ []
-  pub written : said_words lines ≡ before_steps script.workload.dcs script.round stages script.workload.sessions ++ steps_words ∷ end_words ∷ []
+  pub written : said_words lines ≡ before_steps script.workload.dcs script.round stages script.workload.sessions ++ steps_words ∷ (map turn_words script.steps ++ end_words ∷ [])
 
 -- What is read yet.
 
--- one member in each stage, but for the maintainers
+-- one indexer
 pub record IsBuiltSizes (sizes : Sizes) : Type 0 where
-  pub batchers : sizes.batchers ≡ 1
-  pub filters : sizes.filters ≡ 1
-  pub queues : sizes.queues ≡ 1
+  pub batchers : IsSize sizes.batchers
+  pub filters : IsSize sizes.filters
+  pub queues : IsSize sizes.queues
   pub maintainers : IsSize sizes.maintainers
   pub indexers : sizes.indexers ≡ 1
-  pub senders : sizes.senders ≡ 1
-  pub receivers : sizes.receivers ≡ 1
+  pub senders : IsSize sizes.senders
+  pub receivers : IsSize sizes.receivers
 
--- appends and reads
+-- appends, puts and reads
 abbrev pub IsBuiltCommand : Command → Type 0
 IsBuiltCommand (Append tags body) = Unit {0}
-IsBuiltCommand (Put key body) = ⊥
+IsBuiltCommand (Put key body) = Unit {0}
 IsBuiltCommand (Get key) = ⊥
 IsBuiltCommand (Tx keys) = ⊥
 IsBuiltCommand (Read lid) = Unit {0}
 IsBuiltCommand (Last tag n) = ⊥
+
+-- all turns but those of indexers, of collection and of added members
+abbrev pub IsBuiltStep : Step → Type 0
+IsBuiltStep (step.Client s) = Unit {0}
+IsBuiltStep (step.Flush d b) = Unit {0}
+IsBuiltStep (step.Pass d f q) = Unit {0}
+IsBuiltStep (step.Stamp d q) = Unit {0}
+IsBuiltStep (step.Token d) = Unit {0}
+IsBuiltStep (step.Place d q m) = Unit {0}
+IsBuiltStep (step.Gossip d m k) = Unit {0}
+IsBuiltStep (step.Post d m i) = ⊥
+IsBuiltStep (step.Learn d) = Unit {0}
+IsBuiltStep (step.Send d k e) = Unit {0}
+IsBuiltStep (step.Deliver d e k r) = Unit {0}
+IsBuiltStep (step.Lose d e k) = Unit {0}
+IsBuiltStep (step.Copy d e k) = Unit {0}
+IsBuiltStep (step.Floor d p) = ⊥
+IsBuiltStep (step.Collect d m) = ⊥
+IsBuiltStep (step.Announce d h t) = ⊥
+IsBuiltStep (step.Mark d) = ⊥
+IsBuiltStep (step.AddMaintainer d p) = ⊥
+IsBuiltStep (step.AddBatcher d) = ⊥
+IsBuiltStep (step.AddQueue d) = ⊥
+IsBuiltStep (step.AddSender d) = ⊥
+IsBuiltStep (step.AddReceiver d) = ⊥
 
 -- the sizes of each datacentre are given at most once
 abbrev pub AreGivenOnce : List Stages → Type 0
@@ -105,5 +157,6 @@ pub record IsWritten (script : Script) (lines : List (List ℕ)) : Type 0 where
   pub stages : All (IsBuiltStages script.workload.dcs) spells.stages
   pub once : AreGivenOnce spells.stages
   pub fits : FitsScript script
+  pub steps : All (FitsStep script.workload) script.steps
   pub commands : All (λ plan. All IsBuiltCommand plan.commands) script.workload.sessions
-  pub one : script.workload.dcs ≡ 1
+  pub turns : All IsBuiltStep script.steps

@@ -1,7 +1,8 @@
-ghost use Rattle.std.specs.Prelude.{◌≡◌, bytes_eq};
+ghost use Rattle.std.specs.Prelude.{◌≡◌, length, bytes_eq};
 ghost use Rattle.std.specs.List.{find};
-ghost use Rattle.script_text.specs.Keywords.{text_of, command_text, turn_text, keyword_of, stands, is_built, least_words, most_words, command_is_built, least_command_words, most_command_words};
+ghost use Rattle.script_text.specs.Keywords.{text_of, command_text, turn_text, keyword_of, stands, is_built, turn_is_built, turn_arguments, least_words, most_words, command_is_built, least_command_words, most_command_words};
 
+use crate::arguments::Argument;
 use crate::section::Section;
 
 /// The word that begins a line, and tells what kind of line it is.
@@ -150,7 +151,7 @@ impl Keyword {
             Keyword::Session => true,
             Keyword::Command(word) => word.is_built(),
             Keyword::Steps => true,
-            Keyword::Turn(_) => false,
+            Keyword::Turn(word) => word.is_built(),
             Keyword::End => true,
         }
     }
@@ -168,7 +169,10 @@ impl Keyword {
             Keyword::Session => (1, 1),
             Keyword::Command(word) => word.words(),
             Keyword::Steps => (0, 0),
-            Keyword::Turn(_) => (0, 0),
+            Keyword::Turn(word) => {
+                let count = word.arguments().len();
+                (count, count)
+            }
             Keyword::End => (0, 0),
         }
     }
@@ -205,7 +209,7 @@ impl CommandWord {
     {
         match self {
             CommandWord::Append => true,
-            CommandWord::Put => false,
+            CommandWord::Put => true,
             CommandWord::Get => false,
             CommandWord::Tx => false,
             CommandWord::Read => true,
@@ -255,6 +259,70 @@ impl TurnWord {
             TurnWord::AddQueue => b"addqueue",
             TurnWord::AddSender => b"addsender",
             TurnWord::AddReceiver => b"addreceiver",
+        }
+    }
+
+    fn is_built(self) -> bool
+        ensures { result ≡ turn_is_built self }
+    {
+        match self {
+            TurnWord::Client => true,
+            TurnWord::Flush => true,
+            TurnWord::Pass => true,
+            TurnWord::Stamp => true,
+            TurnWord::Token => true,
+            TurnWord::Place => true,
+            TurnWord::Gossip => true,
+            TurnWord::Post => false,
+            TurnWord::Learn => true,
+            TurnWord::Send => true,
+            TurnWord::Deliver => true,
+            TurnWord::Lose => true,
+            TurnWord::Copy => true,
+            TurnWord::Floor => false,
+            TurnWord::Collect => false,
+            TurnWord::Announce => false,
+            TurnWord::Mark => false,
+            TurnWord::AddMaintainer => false,
+            TurnWord::AddBatcher => false,
+            TurnWord::AddQueue => false,
+            TurnWord::AddSender => false,
+            TurnWord::AddReceiver => false,
+        }
+    }
+
+    /// What the words after the first give. What is not read yet has none.
+    pub fn arguments(self) -> &'static [Argument]
+        ensures { result.now ≡ turn_arguments self }
+    {
+        match self {
+            TurnWord::Client => &[Argument::Session],
+            TurnWord::Flush => &[Argument::Datacentre, Argument::Member],
+            TurnWord::Pass => &[Argument::Datacentre, Argument::Member, Argument::Second],
+            TurnWord::Stamp => &[Argument::Datacentre, Argument::Member],
+            TurnWord::Token => &[Argument::Datacentre],
+            TurnWord::Place => &[Argument::Datacentre, Argument::Member, Argument::Second],
+            TurnWord::Gossip => &[Argument::Datacentre, Argument::Member, Argument::Second],
+            TurnWord::Post => &[],
+            TurnWord::Learn => &[Argument::Datacentre],
+            TurnWord::Send => &[Argument::Datacentre, Argument::Member, Argument::Other],
+            TurnWord::Deliver => &[
+                Argument::Datacentre,
+                Argument::Other,
+                Argument::Packet,
+                Argument::Member,
+            ],
+            TurnWord::Lose => &[Argument::Datacentre, Argument::Other, Argument::Packet],
+            TurnWord::Copy => &[Argument::Datacentre, Argument::Other, Argument::Packet],
+            TurnWord::Floor => &[],
+            TurnWord::Collect => &[],
+            TurnWord::Announce => &[],
+            TurnWord::Mark => &[],
+            TurnWord::AddMaintainer => &[],
+            TurnWord::AddBatcher => &[],
+            TurnWord::AddQueue => &[],
+            TurnWord::AddSender => &[],
+            TurnWord::AddReceiver => &[],
         }
     }
 }

@@ -2,10 +2,11 @@ ghost use Rattle.std.specs.Prelude.{◌≡◌, ◌==◌, IfOk};
 ghost use Rattle.std.specs.List.{list_all, list_any, find};
 ghost use Rattle.script_text.specs.Words.{words, is_line_byte, is_empty_word};
 ghost use Rattle.script_text.specs.Reading.{Gives};
-ghost use Rattle.script_text.specs.Meaning.{start, chariots_line, datacentres_line, round_line, sizes_at, stages_line, session_line, append_line, read_line, with_command, command_meaning, meaning, words_after, line_after, is_given, is_passed_over, sizes_given, script_said};
+ghost use Rattle.script_text.specs.Meaning.{start, chariots_line, datacentres_line, round_line, sizes_at, stages_line, session_line, append_line, put_line, read_line, with_command, command_meaning, with_step, turn_line, meaning, words_after, line_after, is_given, is_passed_over, sizes_given, script_said};
 
+use crate::arguments::{read_arguments, step_said};
 use crate::fault::{Cause, LineFault};
-use crate::keyword::{CommandWord, Keyword};
+use crate::keyword::{CommandWord, Keyword, TurnWord};
 use crate::section::Section;
 use crate::words::Words;
 use abstract_log::{Command, Script, SessionPlan, Sizes, Step, Workload};
@@ -46,6 +47,8 @@ const MAX_SESSIONS: usize = 64;
 
 const MAX_COMMANDS: u32 = 16_384;
 
+const MAX_STEPS: usize = 65_536;
+
 impl Progress {
     /// Nothing has been read.
     pub fn new(alloc: Global) -> Self
@@ -75,7 +78,7 @@ impl Progress {
     fn datacentres(&mut self, words: &mut Words<'_>) -> Result<(), LineFault>
         ensures { Gives (λ _. self.new) result (datacentres_line self.old words.old) }
     {
-        self.dcs = words.number(1, 1)?;
+        self.dcs = words.number(1, 8)?;
         self.section = Section::Round;
         Ok(())
     }
@@ -126,6 +129,16 @@ impl Progress {
         self.put_command(Command::Append { tags, body })
     }
 
+    #[tactic(auto, unfolding(crate::specs::Meaning::put_line))]
+    fn put(&mut self, words: &mut Words<'_>) -> Result<(), LineFault>
+        ensures { Gives (λ _. self.new) result (put_line self.old words.old) }
+    {
+        let alloc = self.sessions.alloc();
+        let key = words.name(alloc)?;
+        let body = words.body(alloc)?;
+        self.put_command(Command::Put { key, body })
+    }
+
     #[tactic(auto, unfolding(crate::specs::Meaning::read_line))]
     fn read(&mut self, words: &mut Words<'_>) -> Result<(), LineFault>
         ensures { Gives (λ _. self.new) result (read_line self.old words.old) }
@@ -153,6 +166,27 @@ impl Progress {
         Ok(())
     }
 
+    #[tactic(auto, unfolding(crate::specs::Meaning::turn_line))]
+    fn turn(&mut self, word: TurnWord, words: &mut Words<'_>) -> Result<(), LineFault>
+        ensures { Gives (λ _. self.new) result (turn_line self.old word words.old) }
+    {
+        let given = read_arguments(word.arguments(), self.dcs, self.sessions.len(), words)?;
+        let step = step_said(word, given)?;
+        self.put_step(step)
+    }
+
+    // The next step.
+    #[tactic(auto, unfolding(crate::specs::Meaning::with_step))]
+    fn put_step(&mut self, step: Step) -> Result<(), LineFault>
+        ensures { Gives (λ _. self.new) result (with_step self.old step) }
+    {
+        if self.steps.len() >= MAX_STEPS {
+            return Err(LineFault::Bad(Cause::TooMany));
+        }
+        self.steps.push(step)?;
+        Ok(())
+    }
+
     // One line, but for its first word, whose place and number of words are right.
     fn line(&mut self, keyword: Keyword, words: &mut Words<'_>) -> Result<(), LineFault>
         ensures { Gives (λ _. self.new) result (meaning self.old keyword words.old) }
@@ -168,7 +202,7 @@ impl Progress {
                 self.section = Section::Steps;
                 Ok(())
             }
-            Keyword::Turn(_) => Err(LineFault::Bad(Cause::NotBuilt)),
+            Keyword::Turn(word) => self.turn(word, words),
             Keyword::End => {
                 self.section = Section::Ended;
                 Ok(())
@@ -181,7 +215,7 @@ impl Progress {
     {
         match word {
             CommandWord::Append => self.append(words),
-            CommandWord::Put => Err(LineFault::Bad(Cause::NotBuilt)),
+            CommandWord::Put => self.put(words),
             CommandWord::Get => Err(LineFault::Bad(Cause::NotBuilt)),
             CommandWord::Tx => Err(LineFault::Bad(Cause::NotBuilt)),
             CommandWord::Read => self.read(words),
@@ -263,13 +297,13 @@ impl Progress {
 fn read_sizes(words: &mut Words<'_>) -> Result<Sizes, LineFault>
     ensures { Gives (λ sizes. (sizes, words.new)) result (sizes_at words.old) }
 {
-    let batchers = words.number(1, 1)?;
-    let filters = words.number(1, 1)?;
-    let queues = words.number(1, 1)?;
+    let batchers = words.number(1, 16)?;
+    let filters = words.number(1, 16)?;
+    let queues = words.number(1, 16)?;
     let maintainers = words.number(1, 16)?;
     let indexers = words.number(1, 1)?;
-    let senders = words.number(1, 1)?;
-    let receivers = words.number(1, 1)?;
+    let senders = words.number(1, 16)?;
+    let receivers = words.number(1, 16)?;
     Ok(Sizes {
         batchers,
         filters,

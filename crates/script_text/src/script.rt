@@ -2,7 +2,8 @@ ghost use Rattle.std.specs.Prelude.{◌≡◌, ℕ, All, IfOk, IsErrOf, MatchRes
 ghost use Rattle.script_text.specs.Lines.{lines};
 ghost use Rattle.abstract_log.specs.Fits.{FitsScript};
 ghost use Rattle.script_text.specs.Meaning.{script_of};
-ghost use Rattle.script_text.specs.Spelled.{Spells, IsBuiltCommand, IsWritten};
+ghost use Rattle.script_text.specs.Spelled.{Spells, IsBuiltCommand, IsBuiltStep, IsWritten};
+ghost use Rattle.script_text.specs.Steps.{FitsStep};
 ghost use Rattle.abstract_log.specs.declared.script.Script.{Script};
 ghost use Rattle.script_text.specs.declared.fault.Cause.{Cause};
 
@@ -27,8 +28,12 @@ pub fn read_script(alloc: Global, bytes: &[u8]) -> Result<Script, ScriptFault>
     ensures written { IfOk result (λ script. IsWritten script (lines bytes.now)) }
     ensures only { (script : Script) → IsWritten script (lines bytes.now) → MatchResult result (λ found. found ≡ script) (λ fault. fault ≡ ScriptFault.NoMemory) }
 
-    // As yet it has one datacentre, appends and reads.
-    ensures built { IfOk result (λ script. (script.workload.dcs ≡ 1) × All (λ plan. All IsBuiltCommand plan.commands) script.workload.sessions) }
+    // Each step is one that a script may have: its session and datacentres are there, a link is
+    // between two, and its numbers are in their ranges.
+    ensures steps { IfOk result (λ script. All (FitsStep script.workload) script.steps) }
+
+    // As yet it has appends, puts and reads, and no steps of indexers, of collection and of added members.
+    ensures built { IfOk result (λ script. All (λ plan. All IsBuiltCommand plan.commands) script.workload.sessions × All IsBuiltStep script.steps) }
 {
     read_lines(alloc, bytes)
 }

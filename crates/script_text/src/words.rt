@@ -1,7 +1,7 @@
 ghost use Rattle.std.specs.Prelude.{◌≡◌, ℕ, ◌+◌, ◌-◌, ◌<◌, ◌≤◌, List, [], ◌∷◌, length, slice_index, MatchOption, IsTrue, true, false};
 ghost use Rattle.std.specs.List.{position, list_all, count_by};
 ghost use Rattle.script_text.specs.Words.{words, is_blank, is_digit, is_number, number_of, is_datacentre};
-ghost use Rattle.script_text.specs.Reading.{Gives, number_in, number_at, datacentre_at, body_at, body_in, names_in, name_in};
+ghost use Rattle.script_text.specs.Reading.{Gives, number_in, number_at, number_below_at, datacentre_at, other_datacentre_at, body_at, body_in, names_in, name_in, name_at};
 
 use crate::fault::{Cause, LineFault};
 use cz_base::{Body, BodyFault, DcId, Name, NameFault, Seq};
@@ -72,6 +72,19 @@ impl<'a> Words<'a> {
         Ok(read_number(word, least, most)?)
     }
 
+    /// The next word as a number below a limit.
+    #[tactic(auto, unfolding(crate::specs::Reading::number_below_at))]
+    pub fn number_below(&mut self, limit: usize) -> Result<u32, LineFault>
+        ensures { Gives (λ n. (n, self.new)) result (number_below_at limit self.old) }
+    {
+        let number = self.number(0, u32::MAX)?;
+        if (number as usize) < limit {
+            Ok(number)
+        } else {
+            Err(LineFault::Bad(Cause::OutOfRange))
+        }
+    }
+
     /// The next word as one of so many datacentres.
     #[tactic(auto, unfolding(crate::specs::Reading::datacentre_at))]
     pub fn datacentre(&mut self, dcs: u32) -> Result<DcId, LineFault>
@@ -84,6 +97,29 @@ impl<'a> Words<'a> {
             Some(dc) => Ok(dc),
             None => Err(LineFault::Bad(Cause::BadDatacentre)),
         }
+    }
+
+    /// The next word as one of so many datacentres, but not the first.
+    #[tactic(auto, unfolding(crate::specs::Reading::other_datacentre_at))]
+    pub fn other_datacentre(&mut self, dcs: u32, first: DcId) -> Result<DcId, LineFault>
+        ensures { Gives (λ dc. (dc, self.new)) result (other_datacentre_at dcs first self.old) }
+    {
+        let dc = self.datacentre(dcs)?;
+        if dc == first {
+            return Err(LineFault::Bad(Cause::BadDatacentre));
+        }
+        Ok(dc)
+    }
+
+    /// The next word as a name.
+    #[tactic(auto, unfolding(crate::specs::Reading::name_at))]
+    pub fn name(&mut self, alloc: Global) -> Result<Name, LineFault>
+        ensures { Gives (λ name. (name, self.new)) result (name_at self.old) }
+    {
+        let Some(word) = self.next_word() else {
+            return Err(LineFault::Bad(Cause::WrongWords));
+        };
+        read_name(alloc, word)
     }
 
     /// The next word as a body.

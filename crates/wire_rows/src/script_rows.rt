@@ -1,5 +1,5 @@
-use abstract_log::{Command, Script};
-use cz_base::Seq;
+use abstract_log::{Command, Script, Step};
+use cz_base::{DcId, Seq};
 use script_text::{Cause, ScriptFault, read_script};
 use std::alloc::Global;
 use std::process::Abort;
@@ -12,7 +12,7 @@ struct Refused {
     cause: Cause,
 }
 
-const REFUSED: [Refused; 24] = [
+const REFUSED: [Refused; 54] = [
     Refused {
         script: b"",
         line: 1,
@@ -91,7 +91,7 @@ const REFUSED: [Refused; 24] = [
     Refused {
         script: b"chariots 1\ndatacentres 1\nround 1\nsteps\nclient\n",
         line: 5,
-        cause: Cause::NotBuilt,
+        cause: Cause::WrongWords,
     },
     Refused {
         script: b"chariots 1\ndatacentres 1\nround 1\nsession A\nappend body\n",
@@ -132,6 +132,156 @@ const REFUSED: [Refused; 24] = [
         script: b"# a\tcomment\nchariots 1\n",
         line: 1,
         cause: Cause::BadByte,
+    },
+    Refused {
+        script: b"chariots 1\ndatacentres 1\nround 1\nsession A\nput key\n",
+        line: 5,
+        cause: Cause::WrongWords,
+    },
+    Refused {
+        script: b"chariots 1\ndatacentres 1\nround 1\nsession A\nput a/b body\n",
+        line: 5,
+        cause: Cause::BadName,
+    },
+    Refused {
+        script: b"chariots 1\ndatacentres 1\nround 1\nsession A\nput key body\n",
+        line: 5,
+        cause: Cause::BadBody,
+    },
+    Refused {
+        script: b"chariots 1\ndatacentres 0\n",
+        line: 2,
+        cause: Cause::OutOfRange,
+    },
+    Refused {
+        script: b"chariots 1\ndatacentres 8\nround 1\nsession I\n",
+        line: 4,
+        cause: Cause::BadDatacentre,
+    },
+    Refused {
+        script: b"chariots 1\ndatacentres 1\nround 1\nstages A 16 16 16 16 2 16 16\n",
+        line: 4,
+        cause: Cause::OutOfRange,
+    },
+    Refused {
+        script: b"chariots 1\ndatacentres 1\nround 1\nstages A 17 1 1 1 1 1 1\n",
+        line: 4,
+        cause: Cause::OutOfRange,
+    },
+    Refused {
+        script: b"chariots 1\ndatacentres 1\nround 1\nstages A 1 1 1 1 1 0 1\n",
+        line: 4,
+        cause: Cause::OutOfRange,
+    },
+    Refused {
+        script: b"chariots 1\ndatacentres 1\nround 1\nsteps\nstages A 1 1 1 1 1 1 1\n",
+        line: 5,
+        cause: Cause::OutOfPlace,
+    },
+    Refused {
+        script: b"chariots 1\ndatacentres 1\nround 1\nclient 0\n",
+        line: 4,
+        cause: Cause::OutOfPlace,
+    },
+    Refused {
+        script: b"chariots 1\ndatacentres 1\nround 1\nsteps\npost A\n",
+        line: 5,
+        cause: Cause::NotBuilt,
+    },
+    Refused {
+        script: b"chariots 1\ndatacentres 1\nround 1\nsteps\nclient 0\n",
+        line: 5,
+        cause: Cause::OutOfRange,
+    },
+    Refused {
+        script: b"chariots 1\ndatacentres 1\nround 1\nsession A\nsteps\nclient 1\n",
+        line: 6,
+        cause: Cause::OutOfRange,
+    },
+    Refused {
+        script: b"chariots 1\ndatacentres 1\nround 1\nsession A\nsteps\nclient 00\n",
+        line: 6,
+        cause: Cause::BadNumber,
+    },
+    Refused {
+        script: b"chariots 1\ndatacentres 1\nround 1\nsteps\nflush a 0\n",
+        line: 5,
+        cause: Cause::BadDatacentre,
+    },
+    Refused {
+        script: b"chariots 1\ndatacentres 1\nround 1\nsteps\nflush B 0\n",
+        line: 5,
+        cause: Cause::BadDatacentre,
+    },
+    Refused {
+        script: b"chariots 1\ndatacentres 1\nround 1\nsteps\nflush AA 0\n",
+        line: 5,
+        cause: Cause::BadDatacentre,
+    },
+    Refused {
+        script: b"chariots 1\ndatacentres 1\nround 1\nsteps\nflush A 16\n",
+        line: 5,
+        cause: Cause::OutOfRange,
+    },
+    Refused {
+        script: b"chariots 1\ndatacentres 1\nround 1\nsteps\npass A 16 x\n",
+        line: 5,
+        cause: Cause::OutOfRange,
+    },
+    Refused {
+        script: b"chariots 1\ndatacentres 1\nround 1\nsteps\npass A 0 16\n",
+        line: 5,
+        cause: Cause::OutOfRange,
+    },
+    Refused {
+        script: b"chariots 1\ndatacentres 1\nround 1\nsteps\ngossip A 0\n",
+        line: 5,
+        cause: Cause::WrongWords,
+    },
+    Refused {
+        script: b"chariots 1\ndatacentres 1\nround 1\nsteps\nlearn A 0\n",
+        line: 5,
+        cause: Cause::WrongWords,
+    },
+    Refused {
+        script: b"chariots 1\ndatacentres 2\nround 1\nsteps\nsend A 0 A\n",
+        line: 5,
+        cause: Cause::BadDatacentre,
+    },
+    Refused {
+        script: b"chariots 1\ndatacentres 2\nround 1\nsteps\nsend A 16 A\n",
+        line: 5,
+        cause: Cause::OutOfRange,
+    },
+    Refused {
+        script: b"chariots 1\ndatacentres 2\nround 1\nsteps\nsend A 0 C\n",
+        line: 5,
+        cause: Cause::BadDatacentre,
+    },
+    Refused {
+        script: b"chariots 1\ndatacentres 2\nround 1\nsteps\ndeliver B B 0 0\n",
+        line: 5,
+        cause: Cause::BadDatacentre,
+    },
+    Refused {
+        script: b"chariots 1\ndatacentres 2\nround 1\nsteps\ndeliver A B 0 0\n",
+        line: 5,
+        cause: Cause::OutOfRange,
+    },
+    Refused {
+        script: b"chariots 1\ndatacentres 2\nround 1\nsteps\ndeliver A B 65 16\n",
+        line: 5,
+        cause: Cause::OutOfRange,
+    },
+    Refused {
+        script: b"chariots 1\ndatacentres 2\nround 1\nsteps\nlose A B +1\n",
+        line: 5,
+        cause: Cause::BadNumber,
+    },
+    Refused {
+        script: b"chariots 1\ndatacentres 2\nround 1\nsteps\ncopy A B 4294967296\n",
+        line: 5,
+        cause: Cause::OutOfRange,
     },
 ];
 
@@ -251,6 +401,72 @@ fn the_65th_session_is_refused(rt: HostRuntime) -> Result<(), Fail> {
         Some(ScriptFault::Bad {
             line: 68,
             cause: Cause::BadDatacentre
+        })
+    );
+    Ok(())
+}
+
+const EACH_TURN: &[u8] =
+    b"chariots 1\ndatacentres 3\nround 4\nstages B 2 3 4 5 1 6 16\nsession C\nput k.1 =v\nsteps\nclient 0\nflush A 0\npass B 1 15\nstamp C 2\ntoken A\nplace A 3 4\ngossip A 5 6\nlearn A\nsend A 7 C\ndeliver A B 1 8\nlose C A 64\ncopy B C 9\nend\n";
+
+fn datacentre(number: u32) -> DcId {
+    DcId::new(number).unwrap_or(DcId::FIRST)
+}
+
+#[test]
+fn each_turn_is_read(rt: HostRuntime) -> Result<(), Fail> {
+    let script = read_script(rt.alloc(), EACH_TURN)?;
+    let (a, b, c) = (datacentre(0), datacentre(1), datacentre(2));
+    let steps = [
+        Step::Client { s: 0 },
+        Step::Flush { d: a, b: 0 },
+        Step::Pass { d: b, f: 1, q: 15 },
+        Step::Stamp { d: c, q: 2 },
+        Step::Token { d: a },
+        Step::Place { d: a, q: 3, m: 4 },
+        Step::Gossip { d: a, m: 5, k: 6 },
+        Step::Learn { d: a },
+        Step::Send { d: a, k: 7, e: c },
+        Step::Deliver {
+            d: a,
+            e: b,
+            k: 1,
+            r: 8,
+        },
+        Step::Lose { d: c, e: a, k: 64 },
+        Step::Copy { d: b, e: c, k: 9 },
+    ];
+    assert_eq!(rt; script.steps.as_slice(), steps.as_slice());
+    assert_eq!(rt; script.workload.dcs, 3);
+    let mut receivers = Vec::new(rt.alloc());
+    for sizes in &script.sizes {
+        receivers.push((sizes.batchers, sizes.receivers))?;
+    }
+    assert_eq!(rt; receivers.as_slice(), [(1, 1), (2, 16), (1, 1)].as_slice());
+    Ok(())
+}
+
+// A script with so many step lines.
+fn with_steps(alloc: Global, count: usize) -> Result<Vec<u8>, Fail> {
+    let mut script = Vec::from_slice(alloc, b"chariots 1\ndatacentres 1\nround 1\nsteps\n")?;
+    for _ in 0..count {
+        script.extend_from_slice(b"learn A\n")?;
+    }
+    Ok(script)
+}
+
+#[test]
+fn the_65537th_step_line_is_refused(rt: HostRuntime) -> Result<(), Fail> {
+    let mut text = with_steps(rt.alloc(), 65536)?;
+    text.extend_from_slice(b"end\n")?;
+    let script = read_script(rt.alloc(), &text)?;
+    assert_eq!(rt; script.steps.len(), 65536);
+    let one_more = with_steps(rt.alloc(), 65537)?;
+    assert_eq!(rt;
+        read_script(rt.alloc(), &one_more).err(),
+        Some(ScriptFault::Bad {
+            line: 65541,
+            cause: Cause::TooMany
         })
     );
     Ok(())

@@ -12,9 +12,11 @@ mod linking;
 mod opening;
 mod packets;
 mod places;
+mod replaying;
 mod sites;
 mod stages;
 mod stepping;
 
 pub use laws::turns_are_runs;
+pub use replaying::replay;
 pub use stages::{Played, Stages};

@@ -30,7 +30,13 @@ const AFTER_END: &[u8] = b"chariots 1\ndatacentres 1\nround 1\nsteps\nend\n# a c
 
 const READ_0: &[u8] = b"chariots 1\ndatacentres 1\nround 1\nsession A\nread 0\nsteps\nend\n";
 
+const NINE_DATACENTRES: &[u8] = b"chariots 1\ndatacentres 9\nround 1\nsteps\nend\n";
+
 const TWO_DATACENTRES: &[u8] = b"chariots 1\ndatacentres 2\nround 1\nsteps\nend\n";
+
+// Only settling brings the record into the log, and to the other datacentre.
+const TOLD_TO_ANOTHER: &[u8] =
+    b"chariots 1\ndatacentres 2\nround 1\nsession A\nappend =hi\nsteps\nend\n";
 
 const UNKNOWN: &[u8] = b"chariots 1\ndatacentres 1\nround 1\nsession A\nappends =x\nsteps\nend\n";
 
@@ -44,7 +50,7 @@ struct Case {
     written: &'static [u8],
 }
 
-const CASES: [Case; 17] = [
+const CASES: [Case; 19] = [
     Case {
         word: "replay",
         script: NO_SESSION,
@@ -135,11 +141,27 @@ const CASES: [Case; 17] = [
     },
     Case {
         word: "replay",
-        script: TWO_DATACENTRES,
+        script: NINE_DATACENTRES,
         read_fails: 0,
         write_fails: 0,
         status: 3,
         written: b"refused: line 2: out of range\n",
+    },
+    Case {
+        word: "replay",
+        script: TWO_DATACENTRES,
+        read_fails: 0,
+        write_fails: 0,
+        status: 0,
+        written: b"log A 0\nlog B 0\nreplies\nend\n",
+    },
+    Case {
+        word: "replay",
+        script: TOLD_TO_ANOTHER,
+        read_fails: 0,
+        write_fails: 0,
+        status: 0,
+        written: b"log A 1\n1 A:1 append 0 1 0,0 =hi\nlog B 1\n1 A:1 append 0 1 0,0 =hi\nreplies\n0 1 written 1 A:1\nend\n",
     },
     Case {
         word: "replay",

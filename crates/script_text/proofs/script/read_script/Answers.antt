@@ -1,6 +1,6 @@
 use Rattle.script_text.specs.Lines.{lines}
 use Rattle.script_text.proofs.Accepted.{all-only}
-use Rattle.script_text.proofs.Laid.{all-written, all-spell, all-fit, all-built}
+use Rattle.script_text.proofs.Laid.{all-written, all-spell, all-fit, all-steps, all-built}
 use Rattle.script_text.proofs.script.read_script.Goals as goal
 
 pub returns-clause-fits : goal.returns-clause-fits
@@ -8,6 +8,9 @@ returns-clause-fits c = all-fit (lines c.args.bytes.now) c.read_lines.result c.r
 
 pub returns-clause-spelled : goal.returns-clause-spelled
 returns-clause-spelled c = all-spell (lines c.args.bytes.now) c.read_lines.result c.read_lines.ensures.ok
+
+pub returns-clause-steps : goal.returns-clause-steps
+returns-clause-steps c = all-steps (lines c.args.bytes.now) c.read_lines.result c.read_lines.ensures.ok
 
 pub returns-clause-built : goal.returns-clause-built
 returns-clause-built c = all-built (lines c.args.bytes.now) c.read_lines.result c.read_lines.ensures.ok

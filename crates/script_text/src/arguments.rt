@@ -1,0 +1,128 @@
+ghost use Rattle.std.specs.Prelude.{◌≡◌};
+ghost use Rattle.script_text.specs.Reading.{Gives};
+ghost use Rattle.script_text.specs.Arguments.{no_arguments, argument_at, arguments_at, step_said};
+
+use crate::fault::{Cause, LineFault};
+use crate::keyword::TurnWord;
+use crate::words::Words;
+use abstract_log::Step;
+use cz_base::DcId;
+
+/// What a word of a step line gives.
+#[derive(Clone, Copy, Debug, PartialEq, Eq)]
+pub enum Argument {
+    /// A datacentre.
+    Datacentre,
+    /// A datacentre other than the one that the line gave before.
+    Other,
+    /// A session that there is.
+    Session,
+    /// The number of a member, below 16.
+    Member,
+    /// The number of a second member, below 16.
+    Second,
+    /// The number of a packet, 1 to 64.
+    Packet,
+}
+
+/// What the words of a step line have given so far; 0 stands for what was not given.
+#[derive(Clone, Copy, Debug, PartialEq, Eq)]
+pub struct Arguments {
+    pub dc: DcId,
+    pub other: DcId,
+    pub session: u32,
+    pub member: u32,
+    pub second: u32,
+    pub packet: u32,
+}
+
+const NO_ARGUMENTS: Arguments = Arguments {
+    dc: DcId::FIRST,
+    other: DcId::FIRST,
+    session: 0,
+    member: 0,
+    second: 0,
+    packet: 0,
+};
+
+const MEMBERS: usize = 16;
+
+impl Arguments {
+    // What is given with the next word.
+    #[tactic(auto, unfolding(crate::specs::Arguments::argument_at))]
+    fn with(
+        self,
+        kind: Argument,
+        dcs: u32,
+        sessions: usize,
+        words: &mut Words<'_>,
+    ) -> Result<Arguments, LineFault>
+        ensures { Gives (λ given. (given, words.new)) result (argument_at dcs sessions self kind words.old) }
+    {
+        let mut given = self;
+        match kind {
+            Argument::Datacentre => given.dc = words.datacentre(dcs)?,
+            Argument::Other => given.other = words.other_datacentre(dcs, self.dc)?,
+            Argument::Session => given.session = words.number_below(sessions)?,
+            Argument::Member => given.member = words.number_below(MEMBERS)?,
+            Argument::Second => given.second = words.number_below(MEMBERS)?,
+            Argument::Packet => given.packet = words.number(1, 64)?,
+        }
+        Ok(given)
+    }
+}
+
+/// What the words give as arguments of some kinds, from left to right, where there are so many
+/// datacentres and sessions.
+pub fn read_arguments(
+    kinds: &[Argument],
+    dcs: u32,
+    sessions: usize,
+    words: &mut Words<'_>,
+) -> Result<Arguments, LineFault>
+    ensures { Gives (λ given. given) result (arguments_at dcs sessions no_arguments kinds.now words.old) }
+{
+    let mut given = NO_ARGUMENTS;
+    for kind in kinds {
+        given = given.with(*kind, dcs, sessions, words)?;
+    }
+    Ok(given)
+}
+
+/// The step that a word says with its arguments.
+pub fn step_said(word: TurnWord, given: Arguments) -> Result<Step, LineFault>
+    ensures { Gives (λ step. step) result (step_said word given) }
+{
+    let Arguments {
+        dc: d,
+        other: e,
+        session: s,
+        member: m,
+        second: n,
+        packet: k,
+    } = given;
+    match word {
+        TurnWord::Client => Ok(Step::Client { s }),
+        TurnWord::Flush => Ok(Step::Flush { d, b: m }),
+        TurnWord::Pass => Ok(Step::Pass { d, f: m, q: n }),
+        TurnWord::Stamp => Ok(Step::Stamp { d, q: m }),
+        TurnWord::Token => Ok(Step::Token { d }),
+        TurnWord::Place => Ok(Step::Place { d, q: m, m: n }),
+        TurnWord::Gossip => Ok(Step::Gossip { d, m, k: n }),
+        TurnWord::Learn => Ok(Step::Learn { d }),
+        TurnWord::Send => Ok(Step::Send { d, k: m, e }),
+        TurnWord::Deliver => Ok(Step::Deliver { d, e, k, r: m }),
+        TurnWord::Lose => Ok(Step::Lose { d, e, k }),
+        TurnWord::Copy => Ok(Step::Copy { d, e, k }),
+        TurnWord::Post
+        | TurnWord::Floor
+        | TurnWord::Collect
+        | TurnWord::Announce
+        | TurnWord::Mark
+        | TurnWord::AddMaintainer
+        | TurnWord::AddBatcher
+        | TurnWord::AddQueue
+        | TurnWord::AddSender
+        | TurnWord::AddReceiver => Err(LineFault::Bad(Cause::NotBuilt)),
+    }
+}
