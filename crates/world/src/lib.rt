@@ -12,6 +12,7 @@ mod linking;
 mod opening;
 mod packets;
 mod places;
+mod settling;
 mod sites;
 mod stages;
 mod stepping;
