@@ -78,7 +78,7 @@ fn play_at(stages: &mut Stages, d: DcId, sizes: &Sizes) -> Result<(), NoMemory>
 fn play_clients(stages: &mut Stages, d: DcId) -> Result<(), NoMemory>
     ensures { OnOk result (HasGoneOn stages.old stages.new) }
 {
-    for s in 0..stages.sessions() as u32 {
+    for s in 0..session_count(stages) {
         if stages.is_home(s, d) {
             stages.play(&Step::Client { s })?;
         }
@@ -213,6 +213,14 @@ fn send_one(stages: &mut Stages, d: DcId, k: u32, e: DcId) -> Result<(), NoMemor
     match stages.last_sent() {
         Some(n) => stages.play(&Step::Deliver { d, e, k: n, r: 0 }),
         None => Ok(()),
+    }
+}
+
+// How many sessions there are.
+fn session_count(stages: &Stages) -> u32 {
+    match u32::try_from(stages.sessions()) {
+        Ok(count) => count,
+        Err(_) => u32::MAX,
     }
 }
 
