@@ -65,13 +65,27 @@ fn play_at_all(stages: &mut Stages, sizes: &[Sizes], waiting: bool) -> Result<()
 fn play_at(stages: &mut Stages, d: DcId, sizes: &Sizes) -> Result<(), NoMemory>
     ensures { OnOk result (HasGoneOn stages.old stages.new) }
 {
+    take_in(stages, d, sizes)?;
+    bring_in(stages, d, sizes)?;
+    stages.play(&Step::Learn { d })
+}
+
+// What sessions ask comes to the queues.
+fn take_in(stages: &mut Stages, d: DcId, sizes: &Sizes) -> Result<(), NoMemory>
+    ensures { OnOk result (HasGoneOn stages.old stages.new) }
+{
     play_clients(stages, d)?;
     flush_all(stages, d, sizes.batchers)?;
-    pass_all(stages, d, sizes.filters, sizes.queues)?;
+    pass_all(stages, d, sizes.filters, sizes.queues)
+}
+
+// What is in the queues comes to the log.
+fn bring_in(stages: &mut Stages, d: DcId, sizes: &Sizes) -> Result<(), NoMemory>
+    ensures { OnOk result (HasGoneOn stages.old stages.new) }
+{
     stamp_all(stages, d, sizes.queues)?;
     place_all(stages, d, sizes.queues, sizes.maintainers)?;
-    gossip_all(stages, d, sizes.maintainers)?;
-    stages.play(&Step::Learn { d })
+    gossip_all(stages, d, sizes.maintainers)
 }
 
 // The sessions of datacentre d.
