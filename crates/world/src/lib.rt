@@ -13,6 +13,7 @@ mod opening;
 mod packets;
 mod places;
 mod replaying;
+mod settling;
 mod sites;
 mod stages;
 mod stepping;

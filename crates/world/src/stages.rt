@@ -6,9 +6,10 @@ ghost use Rattle.stage_world.specs.Schedules.{IsStep};
 ghost use Rattle.world.specs.Showing.{AreBuilt, IsBuiltStep};
 
 use crate::opening::open_sites;
+use crate::places::{may_play, sent_of};
 use crate::sites::Sites;
 use abstract_log::{Event, Run, Script, StageLine, StageLog, Step, Workload};
-use cz_base::{NoMemory, Seq};
+use cz_base::{DcId, NoMemory, Seq};
 use std::alloc::Global;
 use std::marker::Model;
 
@@ -42,7 +43,7 @@ impl Model for Stages {
 }
 
 impl Stages {
-    ghost use Rattle.world.specs.Taking.{HasTaken, IsPlayed, Taken};
+    ghost use Rattle.world.specs.Taking.{HasGoneOn, HasTaken, IsPlayed, Taken};
 
     /// The stages as a script opens them. Its steps are not taken yet.
     pub fn start(alloc: Global, script: &Script) -> Result<Self, NoMemory>
@@ -76,7 +77,7 @@ impl Stages {
     }
 
     // Takes one turn, and writes its line and its events.
-    fn take(&mut self, step: &Step, settling: bool) -> Result<(), NoMemory>
+    pub(crate) fn take(&mut self, step: &Step, settling: bool) -> Result<(), NoMemory>
         requires step { IsStep self.old.workload step.now }
         requires built { IsBuiltStep step.now }
         ensures taken { (script : ScriptValue) (ts : List Taken) → HasTaken script ts self.old → OnOk result (HasTaken script (ts ++ record { step = step.now; settling = settling } ∷ []) self.new) }
@@ -98,6 +99,63 @@ impl Stages {
         self.events.append(done.events)?;
         self.failed = false;
         Ok(())
+    }
+
+    /// Takes a turn of settling, where the step is one that may be taken.
+    pub(crate) fn play(&mut self, step: &Step) -> Result<(), NoMemory>
+        ensures goes_on { OnOk result (HasGoneOn self.old self.new) }
+    {
+        if !may_play(&self.workload, step) {
+            return Ok(());
+        }
+        self.take(step, true)
+    }
+
+    /// How many datacentres there are.
+    pub(crate) fn dcs(&self) -> u32 {
+        self.workload.dcs
+    }
+
+    /// How many sessions there are.
+    pub(crate) fn sessions(&self) -> usize {
+        self.workload.sessions.len()
+    }
+
+    /// Whether session s is at datacentre d.
+    pub(crate) fn is_home(&self, s: u32, d: DcId) -> bool {
+        match self.workload.sessions.get(s as usize) {
+            Some(plan) => plan.home == d,
+            None => false,
+        }
+    }
+
+    /// Whether a session of datacentre d has a command that is not answered.
+    pub(crate) fn waits(&self, d: DcId) -> bool {
+        match self.sites.datacentres.get(d.number() as usize) {
+            Some(datacentre) => datacentre.unanswered(),
+            None => false,
+        }
+    }
+
+    /// Whether datacentres d and e have as many records of each.
+    pub(crate) fn agree(&self, d: DcId, e: DcId) -> bool {
+        let datacentres = &self.sites.datacentres;
+        match (
+            datacentres.get(d.number() as usize),
+            datacentres.get(e.number() as usize),
+        ) {
+            (Some(one), Some(other)) => one.log_counts() == other.log_counts(),
+            _ => true,
+        }
+    }
+
+    /// How many packets the last turn found in the link, where it sent.
+    pub(crate) fn last_sent(&self) -> Option<u32> {
+        let lines = self.lines.as_slice();
+        match lines.last() {
+            Some(line) => sent_of(&line.outcome),
+            None => None,
+        }
     }
 
     /// What was written: the run, and a line for each turn.
