@@ -5,3 +5,4 @@ pub mod OpeningLemmas
 pub mod SiteLemmas
 pub mod TakingLemmas
 pub mod MovingLemmas
+pub mod ReplayLemmas

@@ -12,9 +12,12 @@ mod linking;
 mod opening;
 mod packets;
 mod places;
+mod replaying;
+mod settling;
 mod sites;
 mod stages;
 mod stepping;
 
 pub use laws::turns_are_runs;
+pub use replaying::replay;
 pub use stages::{Played, Stages};

@@ -1,11 +1,12 @@
-ghost use Rattle.std.specs.Prelude.{◌≡◌, true, false, List, [], ◌∷◌, ◌++◌, IfOk, OnErr, OnOk, IsErr};
+ghost use Rattle.std.specs.Prelude.{◌≡◌, true, false, List, [], ◌∷◌, ◌++◌, IfOk, OnErr, OnOk, IsErr, IsTrue};
 ghost use Rattle.abstract_log.specs.declared.script.Script.{Script as ScriptValue};
 ghost use Rattle.abstract_log.specs.Fits.{FitsScript};
-ghost use Rattle.abstract_log.specs.Runs.{IsRun};
+ghost use Rattle.abstract_log.specs.Runs.{IsFinished, IsRun, world_of};
 ghost use Rattle.stage_world.specs.Schedules.{IsStep};
 ghost use Rattle.world.specs.Showing.{AreBuilt, IsBuiltStep};
 
 use crate::opening::open_sites;
+use crate::replaying::are_finished;
 use crate::sites::Sites;
 use abstract_log::{Event, Run, Script, StageLine, StageLog, Step, Workload};
 use cz_base::{NoMemory, Seq};
@@ -42,7 +43,7 @@ impl Model for Stages {
 }
 
 impl Stages {
-    ghost use Rattle.world.specs.Taking.{HasTaken, IsPlayed, Taken};
+    ghost use Rattle.world.specs.Taking.{HasTaken, IsPlayed, Taken, events_after};
 
     /// The stages as a script opens them. Its steps are not taken yet.
     pub fn start(alloc: Global, script: &Script) -> Result<Self, NoMemory>
@@ -98,6 +99,13 @@ impl Stages {
         self.events.append(done.events)?;
         self.failed = false;
         Ok(())
+    }
+
+    // Whether every command is answered and each log has all records.
+    pub(crate) fn is_finished(&self) -> bool
+        ensures { (script : ScriptValue) (ts : List Taken) → HasTaken script ts self.now → IsTrue result → IsFinished (world_of script.workload (events_after script ts)) }
+    {
+        are_finished(&self.sites.datacentres)
     }
 
     /// What was written: the run, and a line for each turn.
