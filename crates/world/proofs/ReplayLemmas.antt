@@ -1,11 +1,11 @@
 -- A script from its first step to its end.
-use Rattle.std.specs.Prelude.{IsTrue}
-use Rattle.std.proofs.Common.{◌≡◌, Bool, true, false, ℕ, ◌+◌, ◌<◌, List, [], ◌∷◌, ◌++◌, length, map, take, get_or, refl, ap, ap₂, sym, ◌∙◌, subst, arith, Option, Some, not}
+use Rattle.std.specs.Prelude.{IsTrue, not}
+use Rattle.std.proofs.Common.{◌≡◌, Bool, true, false, ℕ, zero, suc, ◌+◌, ◌<◌, ◌≤◌, List, [], ◌∷◌, ◌++◌, length, map, take, get_or, refl, ap, ap₂, sym, ◌∙◌, subst, arith, add-one, Option, Some}
 use Rattle.std.specs.List.{All, list_any}
 use Rattle.std.specs.Option.{ForSome}
 use Rattle.std.proofs.lemmas.List.Elements.{All-get_or}
-use Rattle.std.proofs.lemmas.List.{map_push, take-suc}
-use Rattle.std.proofs.Math.Nat.{add-one}
+use Rattle.std.proofs.lemmas.List.{map_push}
+use Rattle.std.proofs.Math.Seq.{take-suc}
 use Rattle.abstract_log.specs.declared.script.Script.{Script}
 use Rattle.abstract_log.specs.declared.script.Step.{Step}
 use Rattle.abstract_log.specs.declared.command.Workload.{Workload}
@@ -54,6 +54,12 @@ steps_taken : (steps : List Step) (more : List Taken) → steps_of (taken_of ste
 steps_taken [] more = refl
 steps_taken (x ∷ steps) more = ap (λ xs. x ∷ xs) (steps_taken steps more)
 
+take_all : {A : Type 0} (xs : List A) (i : ℕ) → length xs ≤ i → take i xs ≡ xs
+take_all [] zero past = refl
+take_all [] (suc i) past = refl
+take_all (x ∷ xs) zero past = absurd (omega (arith, past))
+take_all (x ∷ xs) (suc i) past = ap (λ ys. x ∷ ys) (take_all xs i (omega (arith, past)))
+
 take_first : {A : Type 0} (xs ys : List A) → take (length xs) (xs ++ ys) ≡ xs
 take_first [] [] = refl
 take_first [] (y ∷ ys) = refl
@@ -81,12 +87,12 @@ answered_if true x tells is = absurd (cc)
 pub counts_if : (counts got : List ℕ) (x : DatacentreState) → ForSome x.stages (λ z. got ≡ z.token.counts) → got ≡ counts → HasCounts counts x
 counts_if counts got x tells is = λ z e. sym (tells z e) ∙ is
 
-pub step_fits : (script : Script) (ts : List Taken) (s : StagesState) (i : ℕ) (x : Step) → HasTaken script ts s → All (IsStep script.workload) script.steps → i < length script.steps → x ≡ get_or script.steps i x → IsStep s.workload x
-step_fits script ts s i x h all within is =
-    subst (λ l. IsStep l x) (sym h.workload) (subst (IsStep script.workload) (sym is) (All-get_or (IsStep script.workload) script.steps i x all within))
+pub step_fits : (script : Script) (ts : List Taken) (s : StagesState) (items : List Step) (i : ℕ) (x : Step) → items ≡ script.steps → HasTaken script ts s → All (IsStep script.workload) script.steps → i < length items → x ≡ get_or items i x → IsStep s.workload x
+step_fits script ts s items i x same h all within is =
+    subst (λ l. IsStep l x) (sym h.workload) (subst (IsStep script.workload) (sym is) (All-get_or (IsStep script.workload) items i x (subst (All (IsStep script.workload)) (sym same) all) within))
 
-pub step_built : (xs : List Step) (i : ℕ) (x : Step) → All IsBuiltStep xs → i < length xs → x ≡ get_or xs i x → IsBuiltStep x
-step_built xs i x all within is = subst IsBuiltStep (sym is) (All-get_or IsBuiltStep xs i x all within)
+pub step_built : (steps xs : List Step) (i : ℕ) (x : Step) → xs ≡ steps → All IsBuiltStep steps → i < length xs → x ≡ get_or xs i x → IsBuiltStep x
+step_built steps xs i x same all within is = subst IsBuiltStep (sym is) (All-get_or IsBuiltStep xs i x (subst (All IsBuiltStep) (sym same) all) within)
 
 taken_next_step : (xs : List Step) (i : ℕ) (x : Step) → i < length xs → x ≡ get_or xs i x → taken_of (take i xs) ++ record { step = x; settling = false } ∷ [] ≡ taken_of (take (i + 1) xs)
 taken_next_step xs i x within is =
@@ -95,3 +101,9 @@ taken_next_step xs i x within is =
 pub one_more : (script : Script) (s : StagesState) (xs : List Step) (i : ℕ) (x : Step) → i < length xs → x ≡ get_or xs i x → HasTaken script (taken_of (take i xs) ++ record { step = x; settling = false } ∷ []) s
     → HasTaken script (taken_of (take (i + 1) xs)) s
 one_more script s xs i x within is h = subst (λ ts. HasTaken script ts s) (taken_next_step xs i x within is) h
+
+pub all_with : (P : DatacentreState → Type 0) (xs items : List DatacentreState) (i : ℕ) → items ≡ xs → length items ≤ i → All P (take i items) → All P xs
+all_with P xs items i same past all = subst (All P) (take_all items i past ∙ same) all
+
+pub steps_done : (script : Script) (s : StagesState) (items : List Step) (i : ℕ) → items ≡ script.steps → length items ≤ i → HasTaken script (taken_of (take i items)) s → HasTaken script (taken_of script.steps) s
+steps_done script s items i same past h = subst (λ xs. HasTaken script (taken_of xs) s) (take_all items i past ∙ same) h
