@@ -32,7 +32,7 @@ use Rattle.world.proofs.MovingLemmas.{seen_at}
 each_has : (P : DatacentreState → Type 0) (xs : List DatacentreState) (d : ℕ) (z : Datacentre) → All P xs → IsSeenAt d z xs → P (record { dc = d; stages = Some z })
 each_has P xs d z all seen =
     let state : DatacentreState = record { dc = d; stages = Some z } in
-    subst P (seen.is state) (All-get_or P xs d state all seen.there)
+    subst P (seen.is state) (All-get_or P xs d state seen.there all)
 
 pub finished_here : (script : Script) (ts : List Taken) (s : StagesState) → HasTaken script ts s → All IsAnswered s.sites.datacentres × ((counts : List ℕ) × All (HasCounts counts) s.sites.datacentres)
     → IsFinished (world_of script.workload (events_after script ts))
@@ -89,10 +89,10 @@ counts_if counts got x tells is = λ z e. sym (tells z e) ∙ is
 
 pub step_fits : (script : Script) (ts : List Taken) (s : StagesState) (items : List Step) (i : ℕ) (x : Step) → items ≡ script.steps → HasTaken script ts s → All (IsStep script.workload) script.steps → i < length items → x ≡ get_or items i x → IsStep s.workload x
 step_fits script ts s items i x same h all within is =
-    subst (λ l. IsStep l x) (sym h.workload) (subst (IsStep script.workload) (sym is) (All-get_or (IsStep script.workload) items i x (subst (All (IsStep script.workload)) (sym same) all) within))
+    subst (λ l. IsStep l x) (sym h.workload) (subst (IsStep script.workload) (sym is) (All-get_or (IsStep script.workload) items i x within (subst (All (IsStep script.workload)) (sym same) all)))
 
 pub step_built : (steps xs : List Step) (i : ℕ) (x : Step) → xs ≡ steps → All IsBuiltStep steps → i < length xs → x ≡ get_or xs i x → IsBuiltStep x
-step_built steps xs i x same all within is = subst IsBuiltStep (sym is) (All-get_or IsBuiltStep xs i x (subst (All IsBuiltStep) (sym same) all) within)
+step_built steps xs i x same all within is = subst IsBuiltStep (sym is) (All-get_or IsBuiltStep xs i x within (subst (All IsBuiltStep) (sym same) all))
 
 taken_next_step : (xs : List Step) (i : ℕ) (x : Step) → i < length xs → x ≡ get_or xs i x → taken_of (take i xs) ++ record { step = x; settling = false } ∷ [] ≡ taken_of (take (i + 1) xs)
 taken_next_step xs i x within is =
