@@ -6,3 +6,4 @@ pub mod SiteLemmas
 pub mod TakingLemmas
 pub mod MovingLemmas
 pub mod SettlingLemmas
+pub mod ReplayLemmas

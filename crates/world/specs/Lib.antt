@@ -1,3 +1,4 @@
+pub mod Finishing
 pub mod Links
 pub mod Replays
 pub mod Showing

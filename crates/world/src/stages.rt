@@ -1,12 +1,13 @@
-ghost use Rattle.std.specs.Prelude.{◌≡◌, true, false, List, [], ◌∷◌, ◌++◌, IfOk, OnErr, OnOk, IsErr};
+ghost use Rattle.std.specs.Prelude.{◌≡◌, true, false, List, [], ◌∷◌, ◌++◌, IfOk, OnErr, OnOk, IsErr, IsTrue};
 ghost use Rattle.abstract_log.specs.declared.script.Script.{Script as ScriptValue};
 ghost use Rattle.abstract_log.specs.Fits.{FitsScript};
-ghost use Rattle.abstract_log.specs.Runs.{IsRun};
+ghost use Rattle.abstract_log.specs.Runs.{IsFinished, IsRun, world_of};
 ghost use Rattle.stage_world.specs.Schedules.{IsStep};
 ghost use Rattle.world.specs.Showing.{AreBuilt, IsBuiltStep};
 
 use crate::opening::open_sites;
 use crate::places::{may_play, sent_of};
+use crate::replaying::are_finished;
 use crate::sites::Sites;
 use abstract_log::{Event, Run, Script, StageLine, StageLog, Step, Workload};
 use cz_base::{DcId, NoMemory, Seq};
@@ -43,7 +44,7 @@ impl Model for Stages {
 }
 
 impl Stages {
-    ghost use Rattle.world.specs.Taking.{HasGoneOn, HasTaken, IsPlayed, Taken};
+    ghost use Rattle.world.specs.Taking.{HasGoneOn, HasTaken, IsPlayed, Taken, events_after};
 
     /// The stages as a script opens them. Its steps are not taken yet.
     pub fn start(alloc: Global, script: &Script) -> Result<Self, NoMemory>
@@ -110,17 +111,14 @@ impl Stages {
         }
         self.take(step, true)
     }
-
     /// How many datacentres there are.
     pub(crate) fn dcs(&self) -> u32 {
         self.workload.dcs
     }
-
     /// How many sessions there are.
     pub(crate) fn sessions(&self) -> usize {
         self.workload.sessions.len()
     }
-
     /// Whether session s is at datacentre d.
     pub(crate) fn is_home(&self, s: u32, d: DcId) -> bool {
         match self.workload.sessions.get(s as usize) {
@@ -128,7 +126,6 @@ impl Stages {
             None => false,
         }
     }
-
     /// Whether a session of datacentre d has a command that is not answered.
     pub(crate) fn waits(&self, d: DcId) -> bool {
         match self.sites.datacentres.get(d.number() as usize) {
@@ -136,7 +133,6 @@ impl Stages {
             None => false,
         }
     }
-
     /// Whether datacentres d and e have as many records of each.
     pub(crate) fn agree(&self, d: DcId, e: DcId) -> bool {
         let datacentres = &self.sites.datacentres;
@@ -148,7 +144,6 @@ impl Stages {
             _ => true,
         }
     }
-
     /// How many packets the last turn found in the link, where it sent.
     pub(crate) fn last_sent(&self) -> Option<u32> {
         let lines = self.lines.as_slice();
@@ -156,6 +151,12 @@ impl Stages {
             Some(line) => sent_of(&line.outcome),
             None => None,
         }
+    }
+
+    // Whether every command is answered and each log has all records.
+    pub(crate) fn is_finished(&self) -> bool
+        ensures { (script : ScriptValue) (ts : List Taken) → HasTaken script ts self.now → IsTrue result → IsFinished (world_of script.workload (events_after script ts)) }
+        are_finished(&self.sites.datacentres)
     }
 
     /// What was written: the run, and a line for each turn.
