@@ -111,14 +111,17 @@ impl Stages {
         }
         self.take(step, true)
     }
+
     /// How many datacentres there are.
     pub(crate) fn dcs(&self) -> u32 {
         self.workload.dcs
     }
+
     /// How many sessions there are.
     pub(crate) fn sessions(&self) -> usize {
         self.workload.sessions.len()
     }
+
     /// Whether session s is at datacentre d.
     pub(crate) fn is_home(&self, s: u32, d: DcId) -> bool {
         match self.workload.sessions.get(s as usize) {
@@ -126,6 +129,7 @@ impl Stages {
             None => false,
         }
     }
+
     /// Whether a session of datacentre d has a command that is not answered.
     pub(crate) fn waits(&self, d: DcId) -> bool {
         match self.sites.datacentres.get(d.number() as usize) {
@@ -133,6 +137,7 @@ impl Stages {
             None => false,
         }
     }
+
     /// Whether datacentres d and e have as many records of each.
     pub(crate) fn agree(&self, d: DcId, e: DcId) -> bool {
         let datacentres = &self.sites.datacentres;
@@ -144,6 +149,7 @@ impl Stages {
             _ => true,
         }
     }
+
     /// How many packets the last turn found in the link, where it sent.
     pub(crate) fn last_sent(&self) -> Option<u32> {
         let lines = self.lines.as_slice();
@@ -156,6 +162,7 @@ impl Stages {
     // Whether every command is answered and each log has all records.
     pub(crate) fn is_finished(&self) -> bool
         ensures { (script : ScriptValue) (ts : List Taken) → HasTaken script ts self.now → IsTrue result → IsFinished (world_of script.workload (events_after script ts)) }
+    {
         are_finished(&self.sites.datacentres)
     }
 
