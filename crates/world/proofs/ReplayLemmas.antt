@@ -1,6 +1,6 @@
 -- A script from its first step to its end.
-use Rattle.std.specs.Prelude.{IsTrue, not}
-use Rattle.std.proofs.Common.{◌≡◌, Bool, true, false, ℕ, zero, suc, ◌+◌, ◌<◌, ◌≤◌, List, [], ◌∷◌, ◌++◌, length, map, take, get_or, refl, ap, ap₂, sym, ◌∙◌, subst, arith, add-one, Option, Some}
+use Rattle.std.specs.Prelude.{not}
+use Rattle.std.proofs.Common.{◌≡◌, Bool, true, false, ℕ, zero, suc, ◌+◌, ◌<◌, ◌≤◌, List, [], ◌∷◌, ◌++◌, length, take, get_or, refl, ap, sym, ◌∙◌, subst, arith, add-one, Some}
 use Rattle.std.specs.List.{All, list_any}
 use Rattle.std.specs.Option.{ForSome}
 use Rattle.std.proofs.lemmas.List.Elements.{All-get_or}
@@ -11,15 +11,13 @@ use Rattle.abstract_log.specs.declared.script.Step.{Step}
 use Rattle.abstract_log.specs.declared.command.Workload.{Workload}
 use Rattle.abstract_log.specs.declared.event.Event.{Event}
 use Rattle.abstract_log.specs.declared.world.World.{World}
-use Rattle.abstract_log.specs.Fits.{FitsLimits}
-use Rattle.abstract_log.specs.Runs.{IsFinished, IsRun, world_of}
+use Rattle.abstract_log.specs.Runs.{IsFinished, world_of}
 use Rattle.log_laws.proofs.LimitedRuns.{laws_of_run, workload_is}
 use Rattle.stage_world.specs.Stages.{Datacentre, Stages}
 use Rattle.stage_world.specs.Schedules.{IsStep}
-use Rattle.stage_world.specs.Whole.{StandsFor, datacentre_at}
+use Rattle.stage_world.specs.Whole.{datacentre_at}
 use Rattle.stage_world.proofs.AllTurns.{schedule}
 use Rattle.datacentre.specs.Seen.{DatacentreState, is_unanswered}
-use Rattle.world.specs.declared.sites.Sites.{Sites}
 use Rattle.world.specs.declared.stages.Played.{Played}
 use Rattle.world.specs.Finishing.{HasCounts, IsAnswered, taken_of}
 use Rattle.world.specs.Replays.{IsReplayed}
