@@ -1,8 +1,7 @@
 -- Going on with turns.
-use Rattle.std.proofs.Common.{◌≡◌, true, List, [], ◌∷◌, ◌++◌, sym, subst, OnOk}
+use Rattle.std.proofs.Common.{[], ◌++◌, sym, subst}
 use Rattle.std.proofs.lemmas.List.{append_assoc, append-nil}
-use Rattle.abstract_log.specs.declared.script.Script.{Script}
-use Rattle.world.specs.Taking.{HasGoneOn, HasTaken, StagesState, Taken}
+use Rattle.world.specs.Taking.{HasGoneOn, HasTaken, StagesState}
 
 pub stays : (s : StagesState) → HasGoneOn s s
 stays s script ts h = ([], subst (λ us. HasTaken script us s) (sym (append-nil ts)) h)

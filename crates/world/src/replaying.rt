@@ -25,7 +25,7 @@ pub fn replay(alloc: Global, script: &Script) -> Result<Played, NoMemory>
     ensures { IfOk result (IsReplayed script.now) }
 {
     let mut stages = opened(alloc, script)?;
-    stages.settle(&script.sizes)?;
+    stages.settle(script.sizes.as_slice())?;
     // Nothing proves that settling ends, and a run that is not finished is not told.
     if !stages.is_finished() {
         return Err(NoMemory);
