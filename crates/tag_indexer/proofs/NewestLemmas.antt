@@ -1,14 +1,13 @@
 -- The newest put that rows have of a key, and that the log has.
-use Rattle.std.proofs.Common.{◌≡◌, ◌⊎◌, ℕ, zero, suc, ◌-◌, ◌<◌, ◌≤◌, max, Bool, true, false, cond, leb, ltb, eqb, ◌&&◌, List, [], ◌∷◌, ◌++◌, length, get_or, refl, ap, sym, ◌∙◌, inl, inr, arith, sum, Option, Some, None, slice_get}
+use Rattle.std.proofs.Common.{◌≡◌, ◌⊎◌, ℕ, zero, suc, ◌-◌, ◌<◌, ◌≤◌, max, Bool, true, false, cond, leb, ltb, eqb, ◌&&◌, List, [], ◌∷◌, ◌++◌, length, refl, ap, sym, ◌∙◌, inl, inr, arith, sum, Option, Some, None, slice_get}
 use Rattle.std.specs.List.{All, Contains, fold, list_any}
 use Rattle.std.specs.Str.{bytes_eq}
 use Rattle.std.proofs.lemmas.List.Elements.{All-nil, All-cons, All-contains}
-use Rattle.std.proofs.lemmas.Option.{same_Some, slice_get-get_or}
+use Rattle.std.proofs.lemmas.Option.{same_Some}
 use Rattle.std.proofs.lemmas.Slice.Eq.{bytes_eq-Decides}
 use Rattle.std.proofs.lemmas.Bool.{cases_eq, cases_lt, cond_both, cond-true, cond-false, and_parts, and_from, or_cases, or_left, or_right, leb-true, le-leb, eq-eqb, ne_eqb, true≢false}
-use Rattle.causal_deps.proofs.Lists.{Contains-here, Contains-there}
+use Rattle.causal_deps.proofs.Lists.{Contains-here, Contains-there, slice_get_some}
 use Rattle.causal_deps.specs.declared.record.Record.{Record}
-use Rattle.causal_deps.specs.declared.record.Kind.TheVariants.{Append as AppendKind}
 use Rattle.abstract_log.specs.Answers.{newest, passes, is_put, is_put_of, has_tag}
 use Rattle.flstore_rounds.specs.Heads.{head, IsBelowMark}
 use Rattle.flstore_rounds.proofs.HeadLemmas.{head_below}
@@ -17,10 +16,6 @@ use Rattle.tag_indexer.specs.Rows.{has_home, home, is_row_of, is_tagged, newest_
 use Rattle.causal_deps.specs.declared.answers.Newest.TheVariants.{Found, Absent}
 use Rattle.tag_indexer.specs.Indexers.{IndexerState, found_lid}
 use Rattle.tag_indexer.specs.Indexed.{IsIndexed, IsRowOf, found_in}
-
--- what stands for a record that there is not
-abbrev pub no_record : Record
-no_record = record { host = 0; toid = 0; session = 0; index = 0; kind = AppendKind; tags = []; body = []; dep = [] }
 
 pub list_any-weaker : {X : Type 0} (p q : X → Bool) (xs : List X) → ((x : X) → p x ≡ true → q x ≡ true) → list_any p xs ≡ true → list_any q xs ≡ true
 list_any-weaker p q [] then some = some
@@ -89,8 +84,9 @@ newest_row_is log i key s indexed here within covered =
     let inner = and_parts (leb post.place.lid s) (is_tagged key post) tests.1 in
     let low : post.place.lid ≤ s = leb-true post.place.lid s inner.0 in
     let there : post.place.lid - 1 < length log = omega (arith, row.0) in
-    let r : Record = get_or log (post.place.lid - 1) no_record in
-    let stands : slice_get log (post.place.lid - 1) ≡ Some r = slice_get-get_or log (post.place.lid - 1) no_record there in
+    let some = slice_get_some log (post.place.lid - 1) there in
+    let r : Record = some.0 in
+    let stands : slice_get log (post.place.lid - 1) ≡ Some r = some.1 in
     let same : post ≡ post_of post.place.lid r = row.2 r stands in
     let put : is_put r.kind ≡ true = ap (λ (y : Post). y.put) (sym same) ∙ tests.0 in
     let tag : has_tag key r ≡ true = ap (is_tagged key) (sym same) ∙ inner.1 in

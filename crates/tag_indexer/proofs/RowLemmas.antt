@@ -6,7 +6,7 @@ use Rattle.std.proofs.lemmas.List.Elements.{All-nil, All-cons, All-head, All-tai
 use Rattle.std.proofs.lemmas.List.Sums.{sum_by-cons}
 use Rattle.std.proofs.lemmas.List.Kept.{AllPairs-cons, AllPairs-filter}
 use Rattle.std.proofs.lemmas.Bool.{cases_eq, cases_lt, cond_both, cond-true, eq-eqb, ne_eqb, ltb-true, ltb-false}
-use Rattle.causal_deps.proofs.Lists.{Contains-here, Contains-there, Contains-cons}
+use Rattle.causal_deps.proofs.Lists.{Contains-here, Contains-there, Contains-cons, slice_get_some, slice_get-append_left}
 use Rattle.causal_deps.specs.declared.record.Record.{Record}
 use Rattle.flstore_rounds.specs.Epochs.{EpochList, owner, longer, later_than, IsPrefix, IsSettled}
 use Rattle.flstore_rounds.specs.Heads.{Pair, mark_at, with_own, IsBelowMark}
@@ -14,7 +14,7 @@ use Rattle.flstore_rounds.proofs.EpochLemmas.{owner-prefix}
 use Rattle.flstore_rounds.proofs.HeadLemmas.{with_own_at}
 use Rattle.tag_indexer.specs.declared.post.Post.{Post}
 use Rattle.tag_indexer.specs.Rows.{has_home, post_of, row_in, rows_in}
-use Rattle.tag_indexer.specs.Indexers.{IndexerState, AreBegun, AreKept, AreOwnRows, posted}
+use Rattle.tag_indexer.specs.Indexers.{IndexerState, AreBegun, posted}
 use Rattle.tag_indexer.specs.Indexed.{IsIndexed, IsRowOf}
 
 pub row_in_has : (x : Post) (ps : List Post) → Contains (row_in x ps) x
@@ -88,15 +88,18 @@ row_in_rises x (y ∷ ys) rise none =
     (λ high. let after : y.place.lid < x.place.lid = omega (arith, ltb-false x.place.lid y.place.lid high, other) in
     AllPairs-cons R y (row_in x ys) (All-row_in (R y) x ys after parts.0) (row_in_rises x ys parts.1 (All-tail (λ (z : Post). z.place.lid ≢ x.place.lid) y ys none)))
 
-rows_in_rise : (rows more : List Post) → AreRows rows → AreRows more → All (λ x. AreElsewhere x.place.lid rows) more → AreRows (rows_in rows more)
+-- no two rows are at one position
+abbrev pub AreApart : List Post → Type 0
+AreApart ps = AllPairs (λ a b. a.place.lid ≢ b.place.lid) ps
+
+pub apart_rising : (ps : List Post) → AreRows ps → AreApart ps
+apart_rising ps rise = λ i j d before within same. absurd (omega (arith, rise i j d before within, same))
+
+rows_in_rise : (rows more : List Post) → AreRows rows → AreApart more → All (λ x. AreElsewhere x.place.lid rows) more → AreRows (rows_in rows more)
 rows_in_rise rows [] rise new apart = rise
 rows_in_rise rows (x ∷ xs) rise new apart =
-    let parts = rows_parts x xs new in
-    rows_in_rise (row_in x rows) xs (row_in_rises x rows rise (All-head (λ (y : Post). AreElsewhere y.place.lid rows) x xs apart)) parts.1
-    (λ k d within. All-row_in (λ (z : Post). z.place.lid ≢ (get_or xs k d).place.lid) x rows (λ same. absurd (omega (arith, parts.0 k d within))) (All-tail (λ (y : Post). AreElsewhere y.place.lid rows) x xs apart k d within))
-
-passed_rise : (test : Post → Bool) (ps : List Post) → AreRows ps → AreRows (filter test ps)
-passed_rise test ps rise = AllPairs-filter (λ (a b : Post). a.place.lid < b.place.lid) test ps rise
+    rows_in_rise (row_in x rows) xs (row_in_rises x rows rise (All-head (λ (y : Post). AreElsewhere y.place.lid rows) x xs apart)) (λ i j d before within. new (suc i) (suc j) d (omega arith) (omega arith))
+    (λ k d within. All-row_in (λ (z : Post). z.place.lid ≢ (get_or xs k d).place.lid) x rows (new 0 (suc k) d (omega arith) (omega arith)) (All-tail (λ (y : Post). AreElsewhere y.place.lid rows) x xs apart k d within))
 
 -- where no mark is above what a list adds, the longer list deals what is below a mark as before
 pub dealt_alike : (v : Pair) (e : EpochList) (m p : ℕ) → IsPrefix v.epochs e ⊎ IsPrefix e v.epochs → AreBegun v e → p < mark_at v m → owner (longer v.epochs e) p ≡ owner v.epochs p
@@ -140,7 +143,8 @@ row_at p (x ∷ xs) has = elim (Contains-cons x.place.lid (map (λ (y : Post). y
 
 module _ (i : IndexerState) (e : EpochList) (m upto : ℕ) (rows : List Post) (few : m < 16)
     (known : IsPrefix i.pair.epochs e ⊎ IsPrefix e i.pair.epochs) (begun : AreBegun i.pair e)
-    (own : AreOwnRows (longer i.pair.epochs e) m (mark_at i.pair m) upto rows) where
+    (once : AreApart rows) (own : All (λ post. (1 ≤ post.place.lid) × (mark_at i.pair m ≤ post.place.lid) × (post.place.lid < upto) × (owner (longer i.pair.epochs e) post.place.lid ≡ m)) rows)
+    (whole : (p : ℕ) → 1 ≤ p → mark_at i.pair m ≤ p → p < upto → owner (longer i.pair.epochs e) p ≡ m → Contains (map (λ post. post.place.lid) rows) p) where
   abbrev new : IndexerState
   new = posted i e m upto rows
 
@@ -151,10 +155,10 @@ module _ (i : IndexerState) (e : EpochList) (m upto : ℕ) (rows : List Post) (f
   kept = filter here rows
 
   abbrev IsOwn : Post → Type 0
-  IsOwn post = (mark_at i.pair m ≤ post.place.lid) × (post.place.lid < upto) × (owner (longer i.pair.epochs e) post.place.lid ≡ m)
+  IsOwn post = (1 ≤ post.place.lid) × (mark_at i.pair m ≤ post.place.lid) × (post.place.lid < upto) × (owner (longer i.pair.epochs e) post.place.lid ≡ m)
 
   kept_own : All (λ post. IsOwn post × (here post ≡ true)) kept
-  kept_own = All-passed IsOwn here rows own.own
+  kept_own = All-passed IsOwn here rows own
 
   top : length i.pair.marks ≡ 16 → mark_at new.pair m ≡ max (mark_at i.pair m) upto
   top size = get_or-set_same i.pair.marks m (max (mark_at i.pair m) upto) 0 (omega (arith, size))
@@ -166,19 +170,19 @@ module _ (i : IndexerState) (e : EpochList) (m upto : ℕ) (rows : List Post) (f
       let old_row = marked j c there in
       let at : owner i.pair.epochs (get_or i.rows j c).place.lid ≡ owner (longer i.pair.epochs e) (get_or kept k d).place.lid =
       sym (dealt_alike i.pair e (owner i.pair.epochs (get_or i.rows j c).place.lid) (get_or i.rows j c).place.lid known begun old_row) ∙ ap (owner (longer i.pair.epochs e)) same in
-      absurd (omega (arith, old_row, ap (mark_at i.pair) (at ∙ new_row.0.2), new_row.0.0, same)))
+      absurd (omega (arith, old_row, ap (mark_at i.pair) (at ∙ new_row.0.3), new_row.0.1, same)))
 
   pub posted_rise : AreRows i.rows → All (λ post. IsBelowMark i.pair post.place.lid) i.rows → AreRows new.rows
-  posted_rise rise marked = rows_in_rise i.rows kept rise (passed_rise here rows own.rising) (apart marked)
+  posted_rise rise marked = rows_in_rise i.rows kept rise (AllPairs-filter (λ (a b : Post). a.place.lid ≢ b.place.lid) here rows once) (apart marked)
 
   new_marked : length i.pair.marks ≡ 16 → (x : Post) → IsOwn x → IsBelowMark new.pair x.place.lid
-  new_marked size x has = omega (arith, ap (mark_at new.pair) has.2, top size, has.1)
+  new_marked size x has = omega (arith, ap (mark_at new.pair) has.3, top size, has.2)
 
-  pub posted_indexed : (log : List Record) → 1 ≤ mark_at i.pair m → IsIndexed log i → All (IsRowOf log) rows → IsIndexed log new
-  posted_indexed log first h of_log =
+  pub posted_indexed : (log : List Record) → IsIndexed log i → All (IsRowOf log) rows → IsIndexed log new
+  posted_indexed log h of_log =
       let IsRow : Pair → Post → Type 0 = λ v post. (1 ≤ post.place.lid) × IsBelowMark v post.place.lid × IsRowOf log post in
-      let of_both : All (λ post. IsOwn post × IsRowOf log post) rows = λ k d within. (own.own k d within, of_log k d within) in
-      let new_row : (x : Post) → (IsOwn x × IsRowOf log x) × (here x ≡ true) → IsRow new.pair x = λ x has. (omega (arith, has.0.0.0), new_marked h.size x has.0.0, has.0.1) in
+      let of_both : All (λ post. IsOwn post × IsRowOf log post) rows = λ k d within. (own k d within, of_log k d within) in
+      let new_row : (x : Post) → (IsOwn x × IsRowOf log x) × (here x ≡ true) → IsRow new.pair x = λ x has. (has.0.0.0, new_marked h.size x has.0.0, has.0.1) in
       record {
         size = length-set i.pair.marks m (max (mark_at i.pair m) upto) ∙ h.size;
         rows = All-rows_in (IsRow new.pair) i.rows kept
@@ -189,8 +193,22 @@ module _ (i : IndexerState) (e : EpochList) (m upto : ℕ) (rows : List Post) (f
         complete = λ p r low covered is home. elim (newly_covered i.pair e m upto known begun p covered) [
           | inl before ↦ rows_in_keeps i.rows kept (post_of p r) (h.complete p r low before is home)
           | inr mine ↦
-              let found = row_at p rows (own.whole p mine.0 (omega (arith, mine.1)) mine.2) in
+              let found = row_at p rows (whole p low mine.0 (omega (arith, mine.1)) mine.2) in
               let same : found.0 ≡ post_of p r = All-contains (IsRowOf log) rows found.0 of_log found.1 r (ap (λ q. slice_get log (q - 1)) found.2 ∙ is) ∙ ap (λ q. post_of q r) found.2 in
               rows_in_has i.rows kept (post_of p r) (passed_has here rows (post_of p r) (subst (Contains rows) same found.1) home)
         ];
       }
+
+-- what is covered is in the log, so a longer log changes nothing
+pub indexed_more : (log more : List Record) (i : IndexerState) → ((p : ℕ) → 1 ≤ p → IsBelowMark i.pair p → p ≤ length log) → IsIndexed log i → IsIndexed (log ++ more) i
+indexed_more log more i within h = record {
+  size = h.size;
+  rows = All-weaker (λ (post : Post). (1 ≤ post.place.lid) × IsBelowMark i.pair post.place.lid × IsRowOf log post) (λ (post : Post). (1 ≤ post.place.lid) × IsBelowMark i.pair post.place.lid × IsRowOf (log ++ more) post)
+      (λ post has. (has.0, has.1, λ x is. has.2 x (sym (get_before (post.place.lid - 1) (omega (arith, has.0, within post.place.lid has.0 has.1))) ∙ is))) i.rows h.rows;
+  homes = h.homes;
+  rising = h.rising;
+  complete = λ p x first covered is here. h.complete p x first covered (sym (get_before (p - 1) (omega (arith, within p first covered))) ∙ is) here;
+}
+  where
+    get_before : (k : ℕ) → k < length log → slice_get (log ++ more) k ≡ slice_get log k
+    get_before k low = let some = slice_get_some log k low in slice_get-append_left log more k some.0 some.1 ∙ sym some.1

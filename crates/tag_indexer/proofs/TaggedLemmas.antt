@@ -3,9 +3,9 @@ use Rattle.std.proofs.Common.{◌≡◌, ◌⊎◌, ℕ, zero, suc, ◌-◌, ◌
 use Rattle.std.specs.List.{All, Contains, find}
 use Rattle.std.proofs.lemmas.List.{take_more, length-take-le}
 use Rattle.std.proofs.lemmas.List.Elements.{All-contains}
-use Rattle.std.proofs.lemmas.Option.{same_Some, slice_get-get_or}
+use Rattle.std.proofs.lemmas.Option.{same_Some, get_or_from_slice_get}
 use Rattle.std.proofs.lemmas.Bool.{cond-true, cond-false, and_parts, and_from, eqb-true, eq-eqb, true≢false, false_from_ne_true}
-use Rattle.causal_deps.proofs.Lists.{Contains-here, Contains-there, Contains-cons}
+use Rattle.causal_deps.proofs.Lists.{Contains-here, Contains-there, Contains-cons, slice_get_some}
 use Rattle.causal_deps.specs.declared.record.Record.{Record}
 use Rattle.abstract_log.specs.Answers.{has_tag, places_with, place_at}
 use Rattle.flstore_rounds.specs.Heads.{head, IsBelowMark}
@@ -14,7 +14,7 @@ use Rattle.tag_indexer.specs.declared.post.Post.{Post}
 use Rattle.tag_indexer.specs.Rows.{has_home, home, is_tagged, post_of, tagged_row, tagged_places}
 use Rattle.tag_indexer.specs.Indexers.{IndexerState}
 use Rattle.tag_indexer.specs.Indexed.{IsIndexed, IsRowOf}
-use Rattle.tag_indexer.proofs.NewestLemmas.{no_record, tag_at_home}
+use Rattle.tag_indexer.proofs.NewestLemmas.{tag_at_home}
 
 find_at : {X : Type 0} (test : X → Bool) (x : X) (xs : List X) (y : X) (b : Bool) → test x ≡ b → (find test xs ≡ Some y → Contains xs y × (test y ≡ true)) → cond b (Some x) (find test xs) ≡ Some y → Contains (x ∷ xs) y × (test y ≡ true)
 find_at test x xs y true is ih e = let same : x ≡ y = same_Some x y e in (subst (λ u. Contains (u ∷ xs) y) (sym same) (Contains-here y xs), ap test (sym same) ∙ is)
@@ -69,10 +69,11 @@ pub tagged_is : (log : List Record) (i : IndexerState) (tag : List ℕ) (s : ℕ
 tagged_is log i tag zero indexed here within covered = refl
 tagged_is log i tag (suc s) indexed here within covered =
     let low : s < length log = omega arith in
-    let r : Record = get_or log s no_record in
-    let stands : slice_get log s ≡ Some r = slice_get-get_or log s no_record low in
+    let some = slice_get_some log s low in
+    let r : Record = some.0 in
+    let stands : slice_get log s ≡ Some r = some.1 in
     let one_up : suc s ≡ s + 1 = omega arith in
-    let longer : take (suc s) log ≡ take s log ++ r ∷ [] = ap (λ n. take n log) one_up ∙ take_more log s no_record low in
+    let longer : take (suc s) log ≡ take s log ++ r ∷ [] = ap (λ n. take n log) one_up ∙ take_more log s r low ∙ ap (λ x. take s log ++ x ∷ []) (get_or_from_slice_get log s r r stands) in
     ap₂ (λ a b. a ++ b) (tagged_is log i tag s indexed here (omega arith) (omega arith))
     (tagged_row_is log i tag (suc s) r indexed here (omega arith) (head_below i.pair (suc s) (omega arith) covered) (ap (slice_get log) (omega arith) ∙ stands)
     ∙ ap (λ q. cond (has_tag tag r) (place_at q r ∷ []) []) (omega (arith, length-take-le s log (omega arith))))
