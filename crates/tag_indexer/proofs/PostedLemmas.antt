@@ -81,3 +81,12 @@ module _ (i : IndexerState) (e : EpochList) (m upto : ℕ) (rows : List Post) (k
 -- a true pair stays so
 pub posted_true : (t e : EpochList) (P : ℕ → Type 0) (v : Pair) (m upto : ℕ) → IsTruePair t P v → IsTrueMark t e P m upto → IsTruePair t P (with_own v e m upto)
 posted_true t e P v m upto pair mark = with_own_true t e P v m upto pair (single_true t e P m upto mark)
+
+-- where nothing is posted, all is kept
+pub kept_same : (number indexers : ℕ) (e epochs : EpochList) (marks : List ℕ) (rows same : List Post) → epochs ≡ e → same ≡ rows → AreKept number indexers (record { epochs = e; marks = marks }) rows → AreKept number indexers (record { epochs = epochs; marks = marks }) same
+kept_same number indexers e epochs marks rows same epochs_are rows_are kept =
+    subst (λ (x : EpochList). AreKept number indexers (record { epochs = x; marks = marks }) same) (sym epochs_are) (subst (λ (x : List Post). AreKept number indexers (record { epochs = e; marks = marks }) x) (sym rows_are) kept)
+
+pub listed_same : (number indexers : ℕ) (puts tagged puts_new tagged_new : List (List ℕ × List ℕ)) (rows same : List Post) → same ≡ rows → ListsAll puts puts_new → ListsAll tagged tagged_new → All (IsRowListed number indexers puts tagged) rows → All (IsRowListed number indexers puts_new tagged_new) same
+listed_same number indexers puts tagged puts_new tagged_new rows same is more_puts more_tagged was =
+    subst (All (IsRowListed number indexers puts_new tagged_new)) (sym is) (All-weaker (IsRowListed number indexers puts tagged) (IsRowListed number indexers puts_new tagged_new) (listed_more number indexers puts tagged puts_new tagged_new more_puts more_tagged) rows was)
