@@ -1,5 +1,5 @@
 -- A session: its commands, and how far it is with them.
-use Rattle.std.specs.Prelude.{◌≡◌, ℕ, ◌+◌, ◌^◌, ◌<◌, max, Bool, true, false, nat_lt, List, [], ◌∷◌, length, map, take, Option, Some, None, All, slice_get}
+use Rattle.std.specs.Prelude.{◌≡◌, ℕ, ◌+◌, ◌^◌, ◌<◌, max, Bool, true, false, nat_lt, List, [], ◌∷◌, ◌++◌, length, map, take, Option, Some, None, All, slice_get}
 use Rattle.std.specs.Option.{option_map_or}
 use Rattle.causal_deps.specs.Counts.{raised}
 use Rattle.causal_deps.specs.declared.record.Record.{Record}
@@ -84,6 +84,10 @@ begun x = record x { standing = record x.standing { begun = true } }
 -- it reads at s, and has found so much there
 abbrev pub reading : ℕ → List Found → SessionState → SessionState
 reading s found x = record (begun x) { pin = Some s; found = found }
+
+-- one more key is found
+abbrev pub with_found : Found → SessionState → SessionState
+with_found found x = record x { found = x.found ++ found ∷ [] }
 
 -- its command is answered at s
 abbrev pub replied : Answer → ℕ → SessionState → SessionState

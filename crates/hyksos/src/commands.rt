@@ -1,7 +1,8 @@
 //! The open or next command of a session.
-ghost use Rattle.std.specs.Prelude.{◌≡◌, ◌^◌, ◌<◌, ◌+◌, length, IfOk, IsSome};
+ghost use Rattle.std.specs.Prelude.{◌≡◌, ◌^◌, ◌<◌, ◌+◌, length, IfOk, IfSome, IsSome};
 ghost use Rattle.std.specs.Option.{option_and_then, option_copied};
 ghost use Rattle.abstract_log.specs.Commands.{draft_of, is_write};
+ghost use Rattle.abstract_log.specs.Fits.{FitsCommand};
 ghost use Rattle.hyksos.specs.Sessions.{next_command, next_index};
 
 use crate::Session;
@@ -13,7 +14,8 @@ use std::alloc::Global;
 impl Session {
     // The command that is open, or the next one.
     pub(crate) fn next(&self) -> Option<&Command>
-        ensures { option_copied result ≡ next_command self.now }
+        ensures value { option_copied result ≡ next_command self.now }
+        ensures fits { IfSome result (λ command. FitsCommand command.now) }
     {
         self.commands.get(self.standing.answered as usize)
     }

@@ -74,7 +74,8 @@ impl Session {
 
     /// Its number.
     pub fn number(&self) -> u32
-        ensures { result ≡ self.now.number }
+        ensures value { result ≡ self.now.number }
+        ensures commands { AreCommands self.now.commands }
     {
         self.number
     }
@@ -88,8 +89,7 @@ impl Session {
 
     /// Whether its open or next command is there and is a write.
     pub fn writes(&self) -> bool
-        ensures value { result ≡ writes self.now }
-        ensures commands { AreCommands self.now.commands }
+        ensures { result ≡ writes self.now }
     {
         match self.next() {
             Some(command) => is_write(command),

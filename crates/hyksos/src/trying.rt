@@ -1,16 +1,16 @@
 //! A session goes on with its command.
-ghost use Rattle.std.specs.Prelude.{◌≡◌, ◌<◌, ℕ, true, List, Some, None, IfOk, IsSome, IsSomeAnd, OnErr, OnOk, length};
+ghost use Rattle.std.specs.Prelude.{◌≡◌, ◌<◌, ◌≤◌, ◌^◌, ℕ, true, List, Some, None, IfOk, IsSome, IsSomeAnd, OnErr, OnOk, length};
 ghost use Rattle.causal_deps.specs.declared.record.Record.{Record as RecordValue};
 ghost use Rattle.abstract_log.specs.declared.command.Command.{Command as CommandValue};
 ghost use Rattle.hyksos.specs.Looking.{sight};
-ghost use Rattle.hyksos.specs.Sessions.{AreCommands, HasFound, IsFoundAt, begun, is_look, next_command, next_index, next_keys, reading, replied};
+ghost use Rattle.hyksos.specs.Sessions.{AreCommands, HasFound, IsFoundAt, begun, is_look, next_command, next_index, next_keys, reading, replied, with_found};
 ghost use Rattle.hyksos.specs.Shelves.{pin_of, with_pin};
-ghost use Rattle.hyksos.specs.Turns.{IsTaken, look, look_turn, opened, read_turn, reply, found_at_pin, turn_of, turned, wait, write_turn};
+ghost use Rattle.hyksos.specs.Turns.{IsTaken, IsWritten, look, look_turn, opened, read_turn, reply, found_at_pin, turn_of, turned, wait, write_turn};
 
 use crate::looking::{Seen, list, look_up, read};
 use crate::past::raise_answer;
 use crate::{Next, Session, Shelf, Turned};
-use abstract_log::{Answer, Command};
+use abstract_log::{Answer, Command, Found};
 use causal_deps::Pin;
 use cz_base::{Lid, NoMemory};
 
@@ -28,19 +28,31 @@ impl Session {
         ensures refused { OnErr result ((self.new ≡ self.old) × (V.held shelf.new ≡ V.held shelf.old)) }
     {
         let opened = self.opened();
-        let next = match self.next() {
-            None => Next::Finished,
-            Some(Command::Append { .. }) => self.write()?,
-            Some(Command::Put { .. }) => self.write()?,
-            Some(Command::Get { .. }) => self.look(shelf)?,
-            Some(Command::Tx { .. }) => self.look(shelf)?,
+        let next = self.go(shelf)?;
+        Ok(Turned { opened, next })
+    }
+
+    // How far the command is after this turn.
+    fn go<V: Shelf>(&mut self, shelf: &mut V) -> Result<Next, NoMemory>
+        requires number { self.old.number < 64 }
+        requires log { (log : List RecordValue) × V.shows shelf.old log }
+        requires pin { pin_of (V.held shelf.old) self.old.number ≡ self.old.pin }
+        ensures ok { (log : List RecordValue) → V.shows shelf.old log → HasFound log self.old → IfOk result (λ next. IsTaken (turn_of log (V.held shelf.old) self.old) next self.new (V.held shelf.new)) }
+        ensures log { (log : List RecordValue) → V.shows shelf.old log → V.shows shelf.new log }
+        ensures refused { OnErr result ((self.new ≡ self.old) × (V.held shelf.new ≡ V.held shelf.old)) }
+    {
+        match self.next() {
+            None => Ok(Next::Finished),
+            Some(Command::Append { .. }) => self.write(),
+            Some(Command::Put { .. }) => self.write(),
+            Some(Command::Get { .. }) => self.look(shelf),
+            Some(Command::Tx { .. }) => self.look(shelf),
             Some(Command::Read { lid }) => {
                 let lid = *lid;
-                self.read(shelf, lid)?
+                self.read(shelf, lid)
             }
-            Some(Command::Last { .. }) => self.look(shelf)?,
-        };
-        Ok(Turned { opened, next })
+            Some(Command::Last { .. }) => self.look(shelf),
+        }
     }
 
     // The number of the next command, if it is there and not open yet.
@@ -154,7 +166,7 @@ impl Session {
                 })
             }
             Seen::Key(found) => {
-                self.found.push(found)?;
+                self.add(found)?;
                 Ok(self.go_on(shelf, s))
             }
             Seen::Whole => Ok(self.go_on(shelf, s)),
@@ -187,6 +199,15 @@ impl Session {
             Some(Command::Read { .. }) => unreachable!(),
             None => unreachable!(),
         }
+    }
+
+    // One more key is found.
+    fn add(&mut self, found: Found) -> Result<(), NoMemory>
+        ensures ok { OnOk result (self.new ≡ with_found found self.old) }
+        ensures refused { OnErr result (self.new ≡ self.old) }
+    {
+        self.found.push(found)?;
+        Ok(())
     }
 
     // With what is found now, the command is answered where no key is left.
