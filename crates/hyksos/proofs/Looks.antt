@@ -83,6 +83,7 @@ keys_behind log keys m x s covered = by_key (slice_get keys (length x.found))
         → cond b (behind m x s (covered_for m key)) (found_at_pin log keys m x s (x.found ++ found_at log s key ∷ [])) ≡ behind m x s covered
     by_test key true same = let at : covered_for m key ≡ covered = cc in ap (behind m x s) at
     by_test key false bad = absurd (cc)
+
     by_key : (o : Option (List ℕ)) → option_map_or (λ key. key_seen log m key s) o Whole ≡ Behind covered
         → option_map_or (λ key. cond (ltb (covered_for m key) s) (behind m x s (covered_for m key)) (found_at_pin log keys m x s (x.found ++ found_at log s key ∷ []))) o (reply m x s (Items (map (found_at log s) keys))) ≡ behind m x s covered
     by_key None bad = absurd (cc)
@@ -106,6 +107,7 @@ keys_found log keys m x s found = by_key (slice_get keys (length x.found)) refl
               ∙ ap (λ f. found_at_pin log keys m x s (x.found ++ f ∷ [])) one;
           grown = λ so_far. subst (λ f. x.found ++ f ∷ [] ≡ map (found_at log s) (take (length (x.found ++ f ∷ [])) keys)) one (found_more log keys s x.found key at so_far);
         }
+
     by_key : (o : Option (List ℕ)) → slice_get keys (length x.found) ≡ o → option_map_or (λ key. key_seen log m key s) o Whole ≡ Key found → IsNextFound log keys m x s found
     by_key None at bad = absurd (cc)
     by_key (Some key) at is = by_test key (ltb (covered_for m key) s) at refl is
@@ -116,9 +118,11 @@ keys_whole log keys m x s = by_key (slice_get_cases keys (length x.found)).1
   where
     none_left : length keys ≤ length x.found → found_at_pin log keys m x s x.found ≡ reply m x s (Items (map (found_at log s) keys))
     none_left past = cond-false (ltb (length x.found) (length keys)) _ _ (le-ltb (length x.found) (length keys) past)
+
     seen_one : (key : List ℕ) (b : Bool) → cond b (Behind (covered_for m key)) (Key (found_at log s key)) ≢ Whole
     seen_one key true bad = cc
     seen_one key false bad = cc
+
     by_key : ((key : List ℕ) × (length x.found < length keys) × (slice_get keys (length x.found) ≡ Some key) × (get_or keys (length x.found) key ≡ key)) ⊎ ((length keys ≤ length x.found) × (slice_get keys (length x.found) ≡ None))
         → next_key_seen log keys m (length x.found) s ≡ Whole → key_turn log keys m x s ≡ found_at_pin log keys m x s x.found
     by_key (inl at) is = absurd (seen_one at.0 (ltb (covered_for m at.0) s) (ap (λ o. option_map_or (λ key. key_seen log m key s) o Whole) (sym at.2) ∙ is))
@@ -132,6 +136,7 @@ keys_list_nothing log keys m found s places = by_key (slice_get keys found)
     by_test : (key : List ℕ) (b : Bool) → cond b (Behind (covered_for m key)) (Key (found_at log s key)) ≢ Places places
     by_test key true bad = cc
     by_test key false bad = cc
+
     by_key : (o : Option (List ℕ)) → option_map_or (λ key. key_seen log m key s) o Whole ≢ Places places
     by_key None bad = cc
     by_key (Some key) bad = by_test key (ltb (covered_for m key) s) bad
@@ -219,7 +224,7 @@ taken_key log c m held x more new s found next is sees so_far grown taken =
     let keys : next_keys x ≡ keys_of c = keys_next x c is in
     let on = seen_key log c m x s found sees in
     let have : IsFoundAt log s more = subst (λ y. IsFoundAt log s y) (sym grown)
-        (on.grown (so_far ∙ ap (λ ks. map (found_at log s) (take (length x.found) ks)) keys) ∙ ap (λ ks. map (found_at log s) (take (length (x.found ++ found ∷ [])) ks)) (sym keys)) in
+    (on.grown (so_far ∙ ap (λ ks. map (found_at log s) (take (length x.found) ks)) keys) ∙ ap (λ ks. map (found_at log s) (take (length (x.found ++ found ∷ [])) ks)) (sym keys)) in
     taken_along (look log c m x s) (found_at_pin log (next_keys more) m more s more.found) next new held
     (on.turn ∙ ap (λ ks. found_at_pin log ks m x s (x.found ++ found ∷ [])) (sym keys) ∙ ap (λ y. found_at_pin log (next_keys y) m y s y.found) (sym grown)) (taken have)
 

@@ -257,7 +257,8 @@ impl Session {
         ensures taken { IsTaken (reply (V.held shelf.old) self.old s answer) result self.new (V.held shelf.new) }
         ensures log { (log : List RecordValue) → V.shows shelf.old log → V.shows shelf.new log }
     {
-        shelf.unpin(self.number);
+        let number = self.number;
+        shelf.unpin(number);
         self.reply(s, answer)
     }
 
