@@ -1,5 +1,5 @@
 -- Idle turns: those after which all is as it was but for epoch lists.
-use Rattle.std.specs.Prelude.{◌≡◌, ◌&&◌, Bool, true, false, is_some, nat_lt, map}
+use Rattle.std.specs.Prelude.{◌≡◌, ◌≢◌, ◌&&◌, Bool, true, false, is_some, nat_lt, map}
 use Rattle.causal_deps.specs.declared.record.Record.{Record}
 use Rattle.flstore_rounds.specs.Heads.{Pair}
 use Rattle.maintainer.specs.Maintainers.{MaintainerState}
@@ -34,14 +34,14 @@ apart_from_epochs z = record z {
   indexers = map indexer_apart z.indexers;
 }
 
--- Two datacentres are the same but for the epoch lists of these.
-abbrev pub AreAlike : Datacentre → Datacentre → Type 0
-AreAlike a b = apart_from_epochs a ≡ apart_from_epochs b
+-- It says whether the second is another than the first.
+pub record TellsApart {X : Type 0} (changed : Bool) (old new : X) : Type 0 where
+  pub same : changed ≡ false → old ≡ new
+  pub other : changed ≡ true → old ≢ new
 
 -- It says whether the datacentre is another one, epoch lists apart.
-pub record TellsChange (changed : Bool) (old new : Datacentre) : Type 0 where
-  pub same : changed ≡ false → AreAlike old new
-  pub other : changed ≡ true → ¬ AreAlike old new
+abbrev pub TellsChange : Bool → Datacentre → Datacentre → Type 0
+TellsChange changed old new = TellsApart changed (apart_from_epochs old) (apart_from_epochs new)
 
 -- A step by which a packet goes into a link or out of one: the member that it names is there, and so is the packet.
 abbrev pub moves_packet : Stages → Step → Bool
