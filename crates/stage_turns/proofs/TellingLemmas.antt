@@ -1,16 +1,22 @@
 -- What one vector tells another.
-use Rattle.std.proofs.Common.{◌≡◌, ℕ, ◌<◌, List, length, ap, sym, ◌∙◌, subst, arith}
+use Rattle.std.proofs.Common.{◌≡◌, ◌≢◌, ◌↔◌, ℕ, ◌<◌, ◌||◌, not, Bool, true, false, List, [], length, map, set, get_or, refl, ap, sym, ◌∙◌, subst, inl, inr, arith}
+use Rattle.std.specs.Bool.{IsTrue}
+use Rattle.std.proofs.lemmas.Bool.{cases_eq, false≢true}
+use Rattle.std.proofs.lemmas.List.{get_or-map, get_or-set_other, length-map, length-set, same_lists}
 use Rattle.std.proofs.lemmas.List.Elements.{All-get_or}
 use Rattle.causal_deps.specs.declared.record.Record.{Record}
 use Rattle.abstract_log.specs.declared.world.World.{World}
 use Rattle.flstore_rounds.specs.Epochs.{IsPrefix}
-use Rattle.flstore_rounds.specs.Heads.{Pair, IsTruePair, blank, with_own}
+use Rattle.flstore_rounds.specs.Heads.{Pair, IsTruePair, blank, joined, with_own}
 use Rattle.maintainer.specs.Maintainers.{MaintainerState, OwnsAll, plain}
 use Rattle.maintainer.proofs.StateLemmas.{plain_mark}
 use Rattle.stage_world.specs.Stages.{Datacentre, IsFilledIn, maintainer_at, no_epochs, no_maintainer, vector_at}
 use Rattle.stage_world.specs.StandsFor.{StandsAt}
 use Rattle.stage_world.specs.Turns.{gossiped}
+use Rattle.stage_world.specs.Idle.{TellsApart}
+use Rattle.stage_turns.specs.Changing.{marks_in}
 use Rattle.stage_turns.specs.Telling.{MayGossip, own_vector, vectors_told}
+use Rattle.stage_turns.proofs.ChangeLemmas.{tells_other, tells_same}
 
 -- a vector's list is the beginning of the token's
 known_vector : (w : World) (d : ℕ) (z : Datacentre) (k : ℕ) → StandsAt w d z → k < length z.maintainers → IsPrefix (vector_at z.vectors k).epochs z.token.epochs
@@ -39,3 +45,46 @@ own_plain m from x vs = ap (with_own (vector_at vs from) x.epochs m) (plain_mark
 -- where the list has all vectors, this is the turn of all stages
 pub gossip_is_turn : (z : Datacentre) (m k : ℕ) (x : MaintainerState Record) → plain x ≡ maintainer_at z.maintainers m → vectors_told z.vectors m k (own_vector m x z.vectors m) ≡ (gossiped z m k).vectors
 gossip_is_turn z m k x same = ap (vectors_told z.vectors m k) (sym (own_plain m m x z.vectors)) ∙ ap (λ (y : MaintainerState Record). vectors_told z.vectors m k (own_vector m y z.vectors m)) same
+
+-- what is told of marks
+
+marks_there : (vs : List Pair) (k : ℕ) (d : List ℕ) → k < length vs → get_or (marks_in vs) k d ≡ (vector_at vs k).marks
+marks_there vs k d within = get_or-map (λ (v : Pair). v.marks) vs k (blank no_epochs) d within
+
+module _ (vs ws : List Pair) (from to : ℕ) (own : Pair) (is : ws ≡ vectors_told vs from to own) where
+  abbrev teller : List Pair
+  teller = set vs from own
+
+  as_many : length ws ≡ length vs
+  as_many = ap (λ (xs : List Pair). length xs) is ∙ length-set teller to (joined (vector_at teller to) own) ∙ length-set vs from own
+
+  abbrev AreSame : ℕ → Type 0
+  AreSame k = (vector_at vs k).marks ≡ (vector_at ws k).marks
+
+  elsewhere : (k : ℕ) → k ≢ from → k ≢ to → AreSame k
+  elsewhere k not_from not_to =
+      ap (λ (v : Pair). v.marks) (sym (ap (λ (xs : List Pair). vector_at xs k) is ∙ get_or-set_other teller to k (joined (vector_at teller to) own) (blank no_epochs) not_to ∙ get_or-set_other vs from k own (blank no_epochs) not_from))
+
+  all_same : AreSame from → AreSame to → (k : ℕ) → AreSame k
+  all_same at_from at_to k = elim (cases_eq k from) [
+    | inl same ↦ subst AreSame (sym same) at_from
+    | inr not_from ↦ elim (cases_eq k to) [
+        | inl same ↦ subst AreSame (sym same) at_to
+        | inr not_to ↦ elsewhere k not_from not_to
+      ]
+  ]
+
+  same_marks : AreSame from → AreSame to → marks_in vs ≡ marks_in ws
+  same_marks at_from at_to =
+      let size : length (marks_in vs) ≡ length vs = length-map vs (λ (v : Pair). v.marks) in
+      same_lists (marks_in vs) (marks_in ws) (size ∙ sym as_many ∙ sym (length-map ws (λ (v : Pair). v.marks)))
+      (λ k d within. marks_there vs k d (omega (arith, within, size)) ∙ all_same at_from at_to k ∙ sym (marks_there ws k d (omega (arith, within, size, as_many))))
+
+  same_at : (k : ℕ) → k < length vs → marks_in vs ≡ marks_in ws → AreSame k
+  same_at k within same = sym (marks_there vs k [] within) ∙ ap (λ (rows : List (List ℕ)). get_or rows k []) same ∙ marks_there ws k [] (omega (arith, within, as_many))
+
+  pub marks_tell : (a b : Bool) → from < length vs → to < length vs → IsTrue a ↔ AreSame from → IsTrue b ↔ AreSame to → TellsApart (not a || not b) (marks_in vs) (marks_in ws)
+  marks_tell true true in_from in_to told heard = tells_same (marks_in vs) (marks_in ws) (same_marks (told.0 refl) (heard.0 refl))
+  marks_tell true false in_from in_to told heard = tells_other (marks_in vs) (marks_in ws) (λ same. absurd (false≢true (heard.1 (same_at to in_to same))))
+  marks_tell false true in_from in_to told heard = tells_other (marks_in vs) (marks_in ws) (λ same. absurd (false≢true (told.1 (same_at from in_from same))))
+  marks_tell false false in_from in_to told heard = tells_other (marks_in vs) (marks_in ws) (λ same. absurd (false≢true (told.1 (same_at from in_from same))))

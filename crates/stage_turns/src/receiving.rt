@@ -1,4 +1,4 @@
-ghost use Rattle.std.specs.Prelude.{◌≡◌, ◌≤◌, ◌%◌, ◌++◌, [], ◌∷◌, length, map, slice_set, IfOk, OnOk};
+ghost use Rattle.std.specs.Prelude.{◌≡◌, ◌↔◌, ◌≤◌, ◌%◌, ◌++◌, [], ◌∷◌, length, map, slice_set, IfOk, IsTrue, OnOk};
 ghost use Rattle.causal_deps.specs.Counts.{greater_rows};
 ghost use Rattle.causal_deps.specs.declared.record.Item.TheVariants.{External};
 ghost use Rattle.abstract_log.specs.declared.event.Event.TheVariants.{Receive};
@@ -6,13 +6,15 @@ ghost use Rattle.record_codec.specs.declared.message.Message.{Message as Message
 ghost use Rattle.record_codec.specs.Wire.{SpellsMessage};
 ghost use Rattle.stage_world.specs.Stages.{batcher_at};
 ghost use Rattle.stage_world.specs.MoreTurns.{names_of, received_outcome};
+ghost use Rattle.stage_turns.specs.Changing.{TellsNews};
 ghost use Rattle.stage_turns.specs.Told.{IsToldBy};
 
 use crate::TurnDone;
+use crate::done::has_some;
 use abstract_log::{Event, Outcome};
 use awareness_table::Aware;
 use batcher::Batcher;
-use causal_deps::{BoxedTable, Item, Record};
+use causal_deps::{BoxedTable, Item, Record, Table};
 use cz_base::{DcId, NoMemory, Seq, Toid};
 use lossy_links::Packet;
 use record_codec::{DecodeFault, Message};
@@ -35,14 +37,22 @@ pub fn deliver(
     ensures batchers { (m : MessageValue) → SpellsMessage (length table.old.table) packet.now m → OnOk result (let b = r % length batchers.old in batchers.new ≡ slice_set batchers.old b (batcher_at batchers.old b ++ map External m.records)) }
     ensures outcome { (m : MessageValue) → SpellsMessage (length table.old.table) packet.now m → IfOk result (λ done. done.outcome ≡ received_outcome (names_of m.records)) }
     ensures events { (m : MessageValue) → SpellsMessage (length table.old.table) packet.now m → IfOk result (λ done. done.events ≡ Receive dc m.from m.table (names_of m.records) ∷ []) }
+    ensures changed { (m : MessageValue) → SpellsMessage (length table.old.table) packet.now m → IfOk result (λ done. TellsNews done.changed table.old.table m) }
 {
     let message = message_in(batchers.alloc(), packet, table)?;
     let outcome = outcome_of(names_of(&message.records)?);
     let events = events_of(dc, from, &message)?;
     let b = r as usize % batchers.len();
+    let brings_records = has_some(&message.records);
     take_records(batchers.item_mut(b), message.records)?;
+    let before = table.table();
     table.merge(&message.table);
-    Ok(TurnDone { outcome, events })
+    let raises_counts = !is_same(&before, &table.table());
+    Ok(TurnDone {
+        outcome,
+        events,
+        changed: brings_records || raises_counts,
+    })
 }
 
 /// The message that the packet spells.
@@ -91,6 +101,12 @@ fn events_of(dc: DcId, from: DcId, message: &Message) -> Result<Seq<Event>, NoMe
         names: names_of(&message.records)?,
     })?;
     Ok(events)
+}
+
+fn is_same(a: &Table, b: &Table) -> bool
+    ensures { IsTrue result ↔ (a.now ≡ b.now) }
+{
+    a == b
 }
 
 // The records go last into the batcher, in order.
