@@ -6,12 +6,14 @@ use Rattle.std.proofs.Math.ListN.{get_or-map}
 use Rattle.std.proofs.Math.Nat.{mod-eq_of_lt, mod-one, mod_self}
 use Rattle.std.proofs.Math.Seq.{map-set_same}
 use Rattle.std.proofs.lemmas.Bool.{cases_lt, false≢true, le-ltb, lt-ltb}
-use Rattle.std.proofs.lemmas.List.{append-nil, get_or-set_same, get_or_past, length-append, length-map, length-set, set-get_or}
+use Rattle.std.proofs.lemmas.List.{append-nil, get_or-set_same, get_or_default, get_or_past, length-append, length-map, length-set, same_lists, set-get_or}
+use Rattle.std.proofs.lemmas.Grind.{same_number_lists}
 use Rattle.causal_deps.specs.declared.record.Record.{Record}
 use Rattle.causal_deps.specs.declared.record.Draft.{Draft}
 use Rattle.causal_deps.specs.declared.record.Item.{Item}
 use Rattle.causal_deps.specs.declared.record.Item.TheVariants.{External}
-use Rattle.causal_deps.specs.Counts.{greater_rows, raised_row, row_of}
+use Rattle.causal_deps.specs.Counts.{IsSquare, IsWithin, entry_of, greater, greater_rows, raised_row, row_of}
+use Rattle.causal_deps.proofs.CountsLemmas.{entry_of-greater_rows, get_or-greater, get_or-greater_rows, length-greater, length-greater_rows}
 use Rattle.abstract_log.specs.declared.answer.Answer.{Answer}
 use Rattle.abstract_log.specs.declared.answer.Answer.TheVariants.{Read}
 use Rattle.flstore_rounds.specs.Epochs.{EpochList}
@@ -101,16 +103,16 @@ pass_tells z f q within =
     (sym (ap (λ (o : List Item). set z.queues q (record y { items = o })) (ap (λ (o : List Item). y.items ++ o) none ∙ append-nil y.items) ∙ set-get_or z.queues q no_queue)))
 
 -- stamp: where no record is made, all items are deferred
+abbrev drain_step : (n d : ℕ) → List ℕ → List Item → Option (Item × List Item) → Drained
+drain_step n d counts items o = option_map_or (λ found. with_first found.0 (record_from d counts found.0) (drain_by_at_most n d (set counts (record_from d counts found.0).host (record_from d counts found.0).toid) found.1)) o (all_deferred items)
+
+none_stamped : (n d : ℕ) (counts : List ℕ) (items : List Item) (o : Option (Item × List Item)) → (drain_step n d counts items o).records ≡ [] → drain_step n d counts items o ≡ all_deferred items
+none_stamped n d counts items None is = refl
+none_stamped n d counts items (Some found) is = absurd (omega (arith, ap (λ (rs : List Record). length rs) is))
+
 drained_none : (n d : ℕ) (counts : List ℕ) (items : List Item) → (drain_by_at_most n d counts items).records ≡ [] → drain_by_at_most n d counts items ≡ all_deferred items
 drained_none zero d counts items none = refl
-drained_none (suc n) d counts items none = at (first_out (is_ready counts) items) none
-  where
-    abbrev step : Option (Item × List Item) → Drained
-    step o = option_map_or (λ found. with_first found.0 (record_from d counts found.0) (drain_by_at_most n d (set counts (record_from d counts found.0).host (record_from d counts found.0).toid) found.1)) o (all_deferred items)
-
-    at : (o : Option (Item × List Item)) → (step o).records ≡ [] → step o ≡ all_deferred items
-    at None is = refl
-    at (Some found) is = absurd (omega (arith, ap (λ (rs : List Record). length rs) is))
+drained_none (suc n) d counts items none = none_stamped n d counts items (first_out (is_ready counts) items) none
 
 dealt_none : (e : EpochList) (m : ℕ) (outboxes : List (List Entry)) → dealt e [] m outboxes ≡ outboxes
 dealt_none e m [] = refl
@@ -194,7 +196,7 @@ place_tells z q m within =
 
 -- gossip
 
-remade : List (List ℕ) → List Pair
+abbrev remade : List (List ℕ) → List Pair
 remade rows = map (λ row. record { epochs = no_epochs; marks = row }) rows
 
 apart_is : (vs : List Pair) → map pair_apart vs ≡ remade (marks_in vs)
@@ -223,7 +225,8 @@ learn_tells d z = elim (cases_lt z.learnt (learnable z)) [
     kept : learnable z ≤ z.learnt → apart_from_epochs z ≡ apart_from_epochs (learnt_more d z)
     kept none =
         let upto : learnable z ≡ z.learnt = omega (arith, none) in
-        let row : learnt_row d z ≡ row_of z.table d = ap (λ k. counts_after z.maintainers (row_of z.table d) z.learnt k) (omega (arith, upto)) in
+        let nothing : learnable z - z.learnt ≡ 0 = omega (arith, upto) in
+        let row : learnt_row d z ≡ row_of z.table d = ap (λ k. counts_after z.maintainers (row_of z.table d) z.learnt k) nothing in
         let rows : raised_row z.table d (learnt_row d z) ≡ z.table = ap (raised_row z.table d) row ∙ ap (set z.table d) (greater-self (row_of z.table d)) ∙ set-get_or z.table d [] in
         sym (ap₂ (λ t k. record (apart_from_epochs z) { table = t; learnt = k }) rows upto)
 
@@ -240,36 +243,37 @@ module _ (z : Datacentre) (i : ℕ) (x : Session) (within : i < length z.session
   begins : x.standing.begun ≡ false → x ≢ begun x
   begins closed same = absurd (false≢true (sym closed ∙ ap (λ (s : Session). s.standing.begun) same))
 
+  abbrev written : Option Draft → Datacentre
+  written o = record z { sessions = set z.sessions i (option_map_or (λ draft. begun x) o x); batchers = option_map_or (with_draft x.number z.batchers) o z.batchers }
+
+  write_by : (b : Bool) (o : Option Draft) → x.standing.begun ≡ b → TellsChange (is_some (cond b None o)) z (written (cond b None o))
+  write_by true o opened = tells_same (apart_from_epochs z) (apart_from_epochs (written None)) (ap (λ xs. record (apart_from_epochs z) { sessions = xs }) unchanged)
+  write_by false None closed = tells_same (apart_from_epochs z) (apart_from_epochs (written None)) (ap (λ xs. record (apart_from_epochs z) { sessions = xs }) unchanged)
+  write_by false (Some draft) closed = tells_other (apart_from_epochs z) (apart_from_epochs (written (Some draft))) (another (begun x) (with_draft x.number z.batchers draft) (begins closed))
+
   pub write_tells : TellsChange (write_changes x) z (record z { sessions = set z.sessions i (session_written x); batchers = batchers_written x z.batchers })
-  write_tells = at x.standing.begun (next_draft x) refl
-    where
-      abbrev written : Option Draft → Datacentre
-      written o = record z { sessions = set z.sessions i (option_map_or (λ draft. begun x) o x); batchers = option_map_or (with_draft x.number z.batchers) o z.batchers }
+  write_tells = write_by x.standing.begun (next_draft x) refl
 
-      at : (b : Bool) (o : Option Draft) → x.standing.begun ≡ b → TellsChange (is_some (cond b None o)) z (written (cond b None o))
-      at true o opened = tells_same (apart_from_epochs z) (apart_from_epochs (written None)) (ap (λ xs. record (apart_from_epochs z) { sessions = xs }) unchanged)
-      at false None closed = tells_same (apart_from_epochs z) (apart_from_epochs (written None)) (ap (λ xs. record (apart_from_epochs z) { sessions = xs }) unchanged)
-      at false (Some draft) closed = tells_other (apart_from_epochs z) (apart_from_epochs (written (Some draft))) (another (begun x) (with_draft x.number z.batchers draft) (begins closed))
+  module _ (ms : List (MaintainerState Record)) (top : ℕ) where
+    abbrev done : Session
+    done = replied (Read (shown_in ms (position_of x) top)) top x
 
-  pub read_tells : (ms : List (MaintainerState Record)) (top : ℕ) → TellsChange (read_changes top x) z (record z { sessions = set z.sessions i (session_read ms top x) })
-  read_tells ms top = at x.standing.begun (nat_lt top x.standing.floor) refl
-    where
-      abbrev answer : Answer
-      answer = Read (shown_in ms (position_of x) top)
+    abbrev read : Session → Datacentre
+    read y = record z { sessions = set z.sessions i y }
 
-      abbrev read : Session → Datacentre
-      read y = record z { sessions = set z.sessions i y }
+    answers : x ≢ done
+    answers same = absurd (omega (arith, ap (λ (s : Session). s.standing.answered) same))
 
-      answers : x ≢ replied answer top x
-      answers same = absurd (omega (arith, ap (λ (s : Session). s.standing.answered) same))
+    read_by : (b w : Bool) → x.standing.begun ≡ b → TellsChange (not (b && w)) z (read (cond w (begun x) done))
+    read_by true true opened =
+        let same : x ≡ begun x = ap (λ v. record x { standing = record x.standing { begun = v } }) opened in
+        tells_same (apart_from_epochs z) (apart_from_epochs (read (begun x))) (ap (λ xs. record (apart_from_epochs z) { sessions = xs }) (unchanged ∙ ap (set z.sessions i) same))
+    read_by true false opened = tells_other (apart_from_epochs z) (apart_from_epochs (read done)) (another done z.batchers answers)
+    read_by false true closed = tells_other (apart_from_epochs z) (apart_from_epochs (read (begun x))) (another (begun x) z.batchers (begins closed))
+    read_by false false closed = tells_other (apart_from_epochs z) (apart_from_epochs (read done)) (another done z.batchers answers)
 
-      at : (b w : Bool) → x.standing.begun ≡ b → TellsChange (not (b && w)) z (read (cond w (begun x) (replied answer top x)))
-      at true true opened =
-          let same : x ≡ begun x = ap (λ v. record x { standing = record x.standing { begun = v } }) opened in
-          tells_same (apart_from_epochs z) (apart_from_epochs (read (begun x))) (ap (λ xs. record (apart_from_epochs z) { sessions = xs }) (unchanged ∙ ap (set z.sessions i) same))
-      at true false opened = tells_other (apart_from_epochs z) (apart_from_epochs (read (replied answer top x))) (another (replied answer top x) z.batchers answers)
-      at false true closed = tells_other (apart_from_epochs z) (apart_from_epochs (read (begun x))) (another (begun x) z.batchers (begins closed))
-      at false false closed = tells_other (apart_from_epochs z) (apart_from_epochs (read (replied answer top x))) (another (replied answer top x) z.batchers answers)
+    pub read_tells : TellsChange (read_changes top x) z (record z { sessions = set z.sessions i (session_read ms top x) })
+    read_tells = read_by x.standing.begun (nat_lt top x.standing.floor) refl
 
 -- deliver
 pub receive_tells : (z : Datacentre) (r : ℕ) (m : Message) (c : Bool) → r % length z.batchers < length z.batchers → TellsNews c z.table m → TellsChange c z (received z r m)
@@ -290,13 +294,56 @@ receive_tells z r m c within h =
     }
 
 -- what a message brings
-pub news_is : (table new : List (List ℕ)) (m : Message) (some same : Bool) → some ≡ has_some m.records → new ≡ greater_rows table m.table → IsTrue same ↔ (table ≡ new) → TellsNews (some || not same) table m
-news_is table new m some same is rows tells = subst (λ b. TellsNews (b || not same) table m) (sym is) (at (has_some m.records) same refl tells)
-  where
-    abbrev both : List Record × List (List ℕ) → List (List ℕ)
-    both p = p.1
 
-    at : (a b : Bool) → has_some m.records ≡ a → IsTrue b ↔ (table ≡ new) → TellsNews (a || not b) table m
-    at true b any told = tells_other ([], table) (m.records, greater_rows table m.table) (λ alike. absurd (omega (arith, one_in m.records any, ap (λ (p : List Record × List (List ℕ)). length p.0) alike)))
-    at false true none told = tells_same ([], table) (m.records, greater_rows table m.table) (λ j. (sym (none_in m.records none) j, (told.0 refl ∙ rows) j))
-    at false false none told = tells_other ([], table) (m.records, greater_rows table m.table) (λ alike. absurd (false≢true (told.1 (ap both alike ∙ sym rows))))
+row_kept : (n k : ℕ) (t u : List (List ℕ)) → k < n → IsSquare n t → IsSquare n u → IsWithin u t → greater (row_of t k) (row_of u k) ≡ row_of t k
+row_kept n k t u inside sizes others within =
+    let size : length (greater (row_of t k) (row_of u k)) ≡ length (row_of t k) = length-greater (row_of t k) (row_of u k) (sizes.entries k inside ∙ sym (others.entries k inside)) in
+    same_number_lists (greater (row_of t k) (row_of u k)) (row_of t k) size (λ h there. get_or-greater (row_of t k) (row_of u k) h ∙ max_left (within k h))
+  where
+    max_left : {a b : ℕ} → b ≤ a → max a b ≡ a
+    max_left le = omega (arith, le)
+
+rows_kept : (n : ℕ) (t u : List (List ℕ)) → IsSquare n t → IsSquare n u → IsWithin u t → greater_rows t u ≡ t
+rows_kept n t u sizes others within =
+    let size : length (greater_rows t u) ≡ length t = length-greater_rows t u (sizes.rows ∙ sym others.rows) in
+    same_lists (greater_rows t u) t size (λ k d inside.
+    let there : k < length t = omega (arith, inside, size) in
+    get_or_default (greater_rows t u) k d [] inside ∙ get_or-greater_rows t u k ∙ row_kept n k t u (omega (arith, there, sizes.rows)) sizes others within
+    ∙ sym (get_or_default t k d [] there))
+
+within_kept : (t u : List (List ℕ)) → t ≡ greater_rows t u → IsWithin u t
+within_kept t u same k h = omega (arith, ap (λ x. entry_of x k h) same, entry_of-greater_rows t u k h)
+
+module _ (n : ℕ) (table : List (List ℕ)) (m : Message) (sizes : IsSquare n table) (others : IsSquare n m.table) where
+  abbrev News : Type 0
+  News = List Record × List (List ℕ)
+
+  abbrev nothing : News
+  nothing = ([], table)
+
+  abbrev brought : News
+  brought = (m.records, greater_rows table m.table)
+
+  news_by : (a b : Bool) → has_some m.records ≡ a → IsTrue b ↔ IsWithin m.table table → TellsNews (a || not b) table m
+  news_by true b any told = tells_other nothing brought (λ alike. absurd (omega (arith, one_in m.records any, ap (λ (p : News). length p.0) alike)))
+  news_by false true none told = tells_same nothing brought (λ j. (sym (none_in m.records none) j, sym (rows_kept n table m.table sizes others (told.0 refl)) j))
+  news_by false false none told = tells_other nothing brought (λ alike. absurd (false≢true (told.1 (within_kept table m.table (ap (λ (p : News). p.1) alike)))))
+
+  pub news_is : (some covers r : Bool) → some ≡ has_some m.records → IsTrue covers ↔ IsWithin m.table table → r ≡ (some || not covers) → TellsNews r table m
+  news_is some covers r is tells made =
+      subst (λ b. TellsNews b table m) (sym (made ∙ ap (λ b. b || not covers) is)) (news_by (has_some m.records) covers refl tells)
+
+-- from what was read of the message and the table
+pub news_of : (n : ℕ) (table read : List (List ℕ)) (found m : Message) → IsSquare n table → IsSquare n m.table → read ≡ table → found ≡ m
+    → (some covers r : Bool) → some ≡ has_some found.records → IsTrue covers ↔ IsWithin found.table read → r ≡ (some || not covers) → TellsNews r table m
+news_of n table read found m sizes others is_table is_m some covers r any tells made =
+    news_is n table m sizes others some covers r (any ∙ ap (λ (x : Message). has_some x.records) is_m)
+    (subst (λ t. IsTrue covers ↔ IsWithin m.table t) is_table (subst (λ (x : Message). IsTrue covers ↔ IsWithin x.table read) is_m tells)) made
+
+-- either of two
+
+pub or_first : (a b r : Bool) → a ≡ true → r ≡ a → r ≡ (a || b)
+or_first a b r is same = same ∙ is ∙ sym (ap (λ x. x || b) is)
+
+pub or_second : (a b r : Bool) → a ≡ false → r ≡ b → r ≡ (a || b)
+or_second a b r is same = same ∙ sym (ap (λ x. x || b) is)

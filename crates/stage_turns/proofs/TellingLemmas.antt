@@ -7,7 +7,7 @@ use Rattle.std.proofs.lemmas.List.Elements.{All-get_or}
 use Rattle.causal_deps.specs.declared.record.Record.{Record}
 use Rattle.abstract_log.specs.declared.world.World.{World}
 use Rattle.flstore_rounds.specs.Epochs.{IsPrefix}
-use Rattle.flstore_rounds.specs.Heads.{Pair, IsTruePair, blank, joined, with_own}
+use Rattle.flstore_rounds.specs.Heads.{Pair, IsTruePair, blank, with_own}
 use Rattle.maintainer.specs.Maintainers.{MaintainerState, OwnsAll, plain}
 use Rattle.maintainer.proofs.StateLemmas.{plain_mark}
 use Rattle.stage_world.specs.Stages.{Datacentre, IsFilledIn, maintainer_at, no_epochs, no_maintainer, vector_at}
@@ -51,19 +51,22 @@ gossip_is_turn z m k x same = ap (vectors_told z.vectors m k) (sym (own_plain m 
 marks_there : (vs : List Pair) (k : ℕ) (d : List ℕ) → k < length vs → get_or (marks_in vs) k d ≡ (vector_at vs k).marks
 marks_there vs k d within = get_or-map (λ (v : Pair). v.marks) vs k (blank no_epochs) d within
 
-module _ (vs ws : List Pair) (from to : ℕ) (own : Pair) (is : ws ≡ vectors_told vs from to own) where
-  abbrev teller : List Pair
-  teller = set vs from own
+module _ (vs : List Pair) (from to : ℕ) (own heard : Pair) where
+  abbrev told : List Pair
+  told = set vs from own
+
+  abbrev ws : List Pair
+  ws = set told to heard
 
   as_many : length ws ≡ length vs
-  as_many = ap (λ (xs : List Pair). length xs) is ∙ length-set teller to (joined (vector_at teller to) own) ∙ length-set vs from own
+  as_many = length-set told to heard ∙ length-set vs from own
 
   abbrev AreSame : ℕ → Type 0
   AreSame k = (vector_at vs k).marks ≡ (vector_at ws k).marks
 
   elsewhere : (k : ℕ) → k ≢ from → k ≢ to → AreSame k
   elsewhere k not_from not_to =
-      ap (λ (v : Pair). v.marks) (sym (ap (λ (xs : List Pair). vector_at xs k) is ∙ get_or-set_other teller to k (joined (vector_at teller to) own) (blank no_epochs) not_to ∙ get_or-set_other vs from k own (blank no_epochs) not_from))
+      ap (λ (v : Pair). v.marks) (sym (get_or-set_other told to k heard (blank no_epochs) not_to ∙ get_or-set_other vs from k own (blank no_epochs) not_from))
 
   all_same : AreSame from → AreSame to → (k : ℕ) → AreSame k
   all_same at_from at_to k = elim (cases_eq k from) [
@@ -83,8 +86,17 @@ module _ (vs ws : List Pair) (from to : ℕ) (own : Pair) (is : ws ≡ vectors_t
   same_at : (k : ℕ) → k < length vs → marks_in vs ≡ marks_in ws → AreSame k
   same_at k within same = sym (marks_there vs k [] within) ∙ ap (λ (rows : List (List ℕ)). get_or rows k []) same ∙ marks_there ws k [] (omega (arith, within, as_many))
 
-  pub marks_tell : (a b : Bool) → from < length vs → to < length vs → IsTrue a ↔ AreSame from → IsTrue b ↔ AreSame to → TellsApart (not a || not b) (marks_in vs) (marks_in ws)
-  marks_tell true true in_from in_to told heard = tells_same (marks_in vs) (marks_in ws) (same_marks (told.0 refl) (heard.0 refl))
-  marks_tell true false in_from in_to told heard = tells_other (marks_in vs) (marks_in ws) (λ same. absurd (false≢true (heard.1 (same_at to in_to same))))
-  marks_tell false true in_from in_to told heard = tells_other (marks_in vs) (marks_in ws) (λ same. absurd (false≢true (told.1 (same_at from in_from same))))
-  marks_tell false false in_from in_to told heard = tells_other (marks_in vs) (marks_in ws) (λ same. absurd (false≢true (told.1 (same_at from in_from same))))
+  by_both : (a b : Bool) → from < length vs → to < length vs → IsTrue a ↔ AreSame from → IsTrue b ↔ AreSame to → TellsApart (not a || not b) (marks_in vs) (marks_in ws)
+  by_both true true in_from in_to first second = tells_same (marks_in vs) (marks_in ws) (same_marks (first.0 refl) (second.0 refl))
+  by_both true false in_from in_to first second = tells_other (marks_in vs) (marks_in ws) (λ same. absurd (false≢true (second.1 (same_at to in_to same))))
+  by_both false true in_from in_to first second = tells_other (marks_in vs) (marks_in ws) (λ same. absurd (false≢true (first.1 (same_at from in_from same))))
+  by_both false false in_from in_to first second = tells_other (marks_in vs) (marks_in ws) (λ same. absurd (false≢true (first.1 (same_at from in_from same))))
+
+  tested_at : (k : ℕ) (x y : List ℕ) (a : Bool) → x ≡ (vector_at vs k).marks → y ≡ (vector_at ws k).marks → IsTrue a ↔ (x ≡ y) → IsTrue a ↔ AreSame k
+  tested_at k x y a before after tells = (λ yes. sym before ∙ tells.0 yes ∙ after, λ same. tells.1 (before ∙ same ∙ sym after))
+
+  -- from the marks that were read, and their tests
+  pub marks_tell : (x y u v : List ℕ) (a b r : Bool) → from < length vs → to < length vs → x ≡ (vector_at vs from).marks → y ≡ (vector_at ws from).marks
+      → u ≡ (vector_at vs to).marks → v ≡ (vector_at ws to).marks → IsTrue a ↔ (x ≡ y) → IsTrue b ↔ (u ≡ v) → r ≡ (not a || not b) → TellsApart r (marks_in vs) (marks_in ws)
+  marks_tell x y u v a b r in_from in_to is_x is_y is_u is_v first second made =
+      subst (λ c. TellsApart c (marks_in vs) (marks_in ws)) (sym made) (by_both a b in_from in_to (tested_at from x y a is_x is_y first) (tested_at to u v b is_u is_v second))

@@ -2,9 +2,10 @@
 use Rattle.std.specs.Prelude.{ℕ, ◌||◌, ◌&&◌, Bool, true, false, not, nat_lt, List, [], ◌∷◌, map, is_some}
 use Rattle.std.specs.Option.{option_map_or}
 use Rattle.flstore_rounds.specs.Heads.{Pair}
+use Rattle.causal_deps.specs.declared.record.Record.{Record}
 use Rattle.record_codec.specs.declared.message.Message.{Message}
 use Rattle.causal_deps.specs.Counts.{greater_rows}
-use Rattle.token_queue.specs.Queues.{QueueState, TokenState}
+use Rattle.token_queue.specs.Queues.{QueueState}
 use Rattle.stage_world.specs.Stages.{Session}
 use Rattle.stage_world.specs.Idle.{TellsApart}
 use Rattle.stage_turns.specs.Clients.{draft_submitted}
@@ -33,4 +34,4 @@ marks_in vs = map (λ (v : Pair). v.marks) vs
 
 -- a message brings records, or makes the table another one
 abbrev pub TellsNews : Bool → List (List ℕ) → Message → Type 0
-TellsNews changed table m = TellsApart changed ([], table) (m.records, greater_rows table m.table)
+TellsNews changed table m = TellsApart {X = List Record × List (List ℕ)} changed ([], table) (m.records, greater_rows table m.table)

@@ -1,5 +1,5 @@
-ghost use Rattle.std.specs.Prelude.{◌≡◌, ◌↔◌, ◌≤◌, ◌%◌, ◌++◌, [], ◌∷◌, length, map, slice_set, IfOk, IsTrue, OnOk};
-ghost use Rattle.causal_deps.specs.Counts.{greater_rows};
+ghost use Rattle.std.specs.Prelude.{◌≡◌, ◌≤◌, ◌%◌, ◌++◌, [], ◌∷◌, length, map, slice_set, IfOk, OnOk};
+ghost use Rattle.causal_deps.specs.Counts.{greater_rows, IsSquare};
 ghost use Rattle.causal_deps.specs.declared.record.Item.TheVariants.{External};
 ghost use Rattle.abstract_log.specs.declared.event.Event.TheVariants.{Receive};
 ghost use Rattle.record_codec.specs.declared.message.Message.{Message as MessageValue};
@@ -14,7 +14,7 @@ use crate::done::has_some;
 use abstract_log::{Event, Outcome};
 use awareness_table::Aware;
 use batcher::Batcher;
-use causal_deps::{BoxedTable, Item, Record, Table};
+use causal_deps::{BoxedTable, Item, Record};
 use cz_base::{DcId, NoMemory, Seq, Toid};
 use lossy_links::Packet;
 use record_codec::{DecodeFault, Message};
@@ -44,10 +44,9 @@ pub fn deliver(
     let events = events_of(dc, from, &message)?;
     let b = r as usize % batchers.len();
     let brings_records = has_some(&message.records);
+    let raises_counts = !table.table().covers(&message.table);
     take_records(batchers.item_mut(b), message.records)?;
-    let before = table.table();
     table.merge(&message.table);
-    let raises_counts = !is_same(&before, &table.table());
     Ok(TurnDone {
         outcome,
         events,
@@ -59,6 +58,7 @@ pub fn deliver(
 pub(crate) fn message_in(alloc: Global, packet: &Packet, table: &Aware) -> Result<Message, NoMemory>
     requires { (m : MessageValue) × SpellsMessage (length table.now.table) packet.now m }
     ensures is { (m : MessageValue) → SpellsMessage (length table.now.table) packet.now m → IfOk result (λ found. found ≡ m) }
+    ensures square { IsSquare (length table.now.table) table.now.table }
 {
     match receive(alloc, packet.as_bytes(), table.table().dcs()) {
         Ok(message) => Ok(message),
@@ -101,12 +101,6 @@ fn events_of(dc: DcId, from: DcId, message: &Message) -> Result<Seq<Event>, NoMe
         names: names_of(&message.records)?,
     })?;
     Ok(events)
-}
-
-fn is_same(a: &Table, b: &Table) -> bool
-    ensures { IsTrue result ↔ (a.now ≡ b.now) }
-{
-    a == b
 }
 
 // The records go last into the batcher, in order.
