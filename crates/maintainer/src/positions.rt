@@ -1,0 +1,23 @@
+ghost use Rattle.std.specs.Prelude.{◌≡◌, ◌<◌, ◌≤◌, ◌==◌, length};
+ghost use Rattle.std.specs.List.{AllWithin, list_any};
+ghost use Rattle.maintainer.specs.Maintainers.{AreRisingPositions};
+
+use cz_base::Lid;
+
+/// How many of the positions are below this one.
+pub(crate) fn positions_below(lids: &[Lid], lid: Lid) -> usize
+    requires { AreRisingPositions lids.now }
+    ensures within { result ≤ length lids.now }
+    ensures below { AllWithin (λ p. p < lid) lids.now 0 result }
+    ensures above { AllWithin (λ p. lid ≤ p) lids.now result (length lids.now) }
+{
+    lids.partition_point(|p| *p < lid)
+}
+
+/// Whether the position is among them.
+pub(crate) fn has_position(lids: &[Lid], lid: Lid) -> bool
+    requires { AreRisingPositions lids.now }
+    ensures { result ≡ list_any (λ p. p == lid) lids.now }
+{
+    lids.get(positions_below(lids, lid)) == Some(&lid)
+}
