@@ -67,9 +67,8 @@ impl Gc {
         ensures value { result ≡ raised self.old to head covered }
         ensures state { self.new ≡ record self.old { floor = result } }
     {
-        self.floor = self
-            .floor
-            .max(least_pin(&self.pins, to.min(head).min(covered)));
+        let lowest = least_pin(&self.pins, to.min(head).min(covered));
+        self.floor = self.floor.max(lowest);
         self.floor
     }
 

@@ -5,7 +5,7 @@ ghost use Rattle.flstore_rounds.specs.Epochs.{IsPrefix, IsSettled};
 ghost use Rattle.maintainer.specs.Maintainers.{AreKept, AreRising, IsFilled, IsMark, IsOwn, collected, empty, entry_after, is_some_within, learned, mark_of, placed, shown_value, value_at};
 
 use crate::Slot;
-use crate::positions::{has_position, positions_below};
+use crate::positions::{has_position, has_position_within, positions_below};
 use crate::slot::{mark_past, slot_after, slots_below, value_of};
 use causal_deps::Shown;
 use cz_base::{Lid, NoMemory};
@@ -112,7 +112,13 @@ impl<T> Maintainer<T> {
         self.spare -= 1;
         // An owner is a member of the last epoch too, which has the most.
         prove!(self.epochs.owner(lid) == self.number);
-        self.mark = mark_past(&self.epochs, self.number, &self.slots, &self.gone, self.mark);
+        self.mark = mark_past(
+            &self.epochs,
+            self.number,
+            &self.slots,
+            &self.gone,
+            self.mark,
+        );
     }
 
     /// Lets the value at a position go and hands it out. The position is gone from then on, and stays filled. No
@@ -123,7 +129,9 @@ impl<T> Maintainer<T> {
         ensures state { self.new ≡ collected self.old lid }
     {
         let Slot { value, .. } = self.slots.remove(slots_below(&self.slots, lid));
-        self.gone.insert(positions_below(&self.gone, lid), lid).unwrap();
+        self.gone
+            .insert(positions_below(&self.gone, lid), lid)
+            .unwrap();
         value
     }
 
@@ -137,8 +145,13 @@ impl<T> Maintainer<T> {
     {
         match value_of(&self.slots, lid) {
             Some(value) => Shown::Filled(value),
-            None if has_position(&self.gone, lid) => Shown::Gone,
-            None => Shown::Empty,
+            None => {
+                if has_position(&self.gone, lid) {
+                    Shown::Gone
+                } else {
+                    Shown::Empty
+                }
+            }
         }
     }
 
@@ -146,10 +159,7 @@ impl<T> Maintainer<T> {
     pub fn has_gone_within(&self, low: Lid, top: Lid) -> bool
         ensures { result ≡ is_some_within low top self.now.gone }
     {
-        match self.gone.get(positions_below(&self.gone, low)) {
-            Some(lid) => *lid < top,
-            None => false,
-        }
+        has_position_within(&self.gone, low, top)
     }
 
     /// The first entry above a position, if there is one. Positions rise along the entries, so no other entry above it

@@ -1,6 +1,6 @@
 ghost use Rattle.std.specs.Prelude.{◌≡◌, ◌<◌, ◌≤◌, ◌==◌, length};
 ghost use Rattle.std.specs.List.{AllWithin, list_any};
-ghost use Rattle.maintainer.specs.Maintainers.{AreRisingPositions};
+ghost use Rattle.maintainer.specs.Maintainers.{AreRisingPositions, is_some_within};
 
 use cz_base::Lid;
 
@@ -19,5 +19,19 @@ pub(crate) fn has_position(lids: &[Lid], lid: Lid) -> bool
     requires { AreRisingPositions lids.now }
     ensures { result ≡ list_any (λ p. p == lid) lids.now }
 {
-    lids.get(positions_below(lids, lid)) == Some(&lid)
+    match lids.get(positions_below(lids, lid)) {
+        Some(first) => *first == lid,
+        None => false,
+    }
+}
+
+/// Whether one of the positions is in the range from `low` up to but not at `top`.
+pub(crate) fn has_position_within(lids: &[Lid], low: Lid, top: Lid) -> bool
+    requires { AreRisingPositions lids.now }
+    ensures { result ≡ is_some_within low top lids.now }
+{
+    match lids.get(positions_below(lids, low)) {
+        Some(first) => *first < top,
+        None => false,
+    }
 }

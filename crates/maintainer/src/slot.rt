@@ -63,11 +63,20 @@ fn is_filled<T>(slots: &[Slot<T>], gone: &[Lid], lid: Lid) -> bool
     requires gone { AreRisingPositions gone.now }
     ensures { IsTrue result ↔ IsFilledBy slots.now gone.now lid }
 {
-    value_of(slots, lid).is_some() || has_position(gone, lid)
+    match value_of(slots, lid) {
+        Some(_) => true,
+        None => has_position(gone, lid),
+    }
 }
 
 /// The mark, where the own positions below `from` have no gap.
-pub(crate) fn mark_past<T>(epochs: &Epochs, number: u32, slots: &[Slot<T>], gone: &[Lid], from: Lid) -> Lid
+pub(crate) fn mark_past<T>(
+    epochs: &Epochs,
+    number: u32,
+    slots: &[Slot<T>],
+    gone: &[Lid],
+    from: Lid,
+) -> Lid
     requires member { number < (last_epoch epochs.now).members }
     requires slots { AreRising slots.now }
     requires gone { AreRisingPositions gone.now }
