@@ -1,4 +1,4 @@
-ghost use Rattle.std.specs.Prelude.{◌≡◌, ◌<◌, ◌≤◌, ◌^◌, ℕ, true, length, replicate, All};
+ghost use Rattle.std.specs.Prelude.{◌≡◌, ◌<◌, ◌≤◌, ◌^◌, ℕ, true, is_some, length, replicate, All};
 ghost use Rattle.abstract_log.specs.Fits.{FitsCommand};
 ghost use Rattle.abstract_log.specs.Worlds.{first_standing};
 ghost use Rattle.hyksos.specs.Sessions.{AreCommands, acked, is_unanswered, session_at, writes};
@@ -85,6 +85,13 @@ impl Session {
         ensures { result ≡ is_unanswered self.now }
     {
         (self.standing.answered as usize) < self.commands.len()
+    }
+
+    /// Whether a look-up of its reads at a pinned position.
+    pub fn is_pinned(&self) -> bool
+        ensures { result ≡ is_some self.now.pin }
+    {
+        self.pin.is_some()
     }
 
     /// Whether its open or next command is there and is a write.
