@@ -7,7 +7,7 @@ ghost use Rattle.maintainer.specs.Maintainers.{AreKept, AreRising, IsFilled, IsM
 use crate::Slot;
 use crate::slot::{mark_past, slot_after, slots_below, value_of};
 use causal_deps::Shown;
-use cz_base::{Lid, NoMemory};
+use cz_base::{Lid, NoMemory, Seq};
 use flstore_rounds::Epochs;
 use std::alloc::Global;
 use std::marker::Model;
@@ -103,6 +103,14 @@ impl<T> Maintainer<T> {
         if self.epochs.next_own(self.number, self.mark) == lid {
             self.mark = mark_past(&self.epochs, self.number, &self.slots, at);
         }
+    }
+
+    /// Its entries, which are moved out.
+    pub fn into_slots(self) -> Seq<Slot<T>>
+        ensures { result ≡ self.entries }
+    {
+        let Maintainer { slots, .. } = self;
+        Seq::from_vec(slots)
     }
 
     /// What stands at an own position.
