@@ -8,7 +8,7 @@ use crate::Slot;
 use crate::positions::{has_position, has_position_within, positions_below};
 use crate::slot::{mark_past, slot_after, slots_below, value_of};
 use causal_deps::Shown;
-use cz_base::{Lid, NoMemory};
+use cz_base::{Lid, NoMemory, Seq};
 use flstore_rounds::Epochs;
 use std::alloc::Global;
 use std::marker::Model;
@@ -135,6 +135,14 @@ impl<T> Maintainer<T> {
         value
     }
 
+    /// Its entries, which are moved out.
+    pub fn into_slots(self) -> Seq<Slot<T>>
+        ensures { result ≡ self.entries }
+    {
+        let Maintainer { slots, .. } = self;
+        Seq::from_vec(slots)
+    }
+
     /// What stands at an own position.
     pub fn read(&self, lid: Lid) -> Shown<'_, T>
         requires own { IsOwn self.now lid }
@@ -160,6 +168,14 @@ impl<T> Maintainer<T> {
         ensures { result ≡ is_some_within low top self.now.gone }
     {
         has_position_within(&self.gone, low, top)
+    }
+
+    /// Its entries: what stands where, by rising position.
+    pub fn entries(&self) -> &[Slot<T>]
+        ensures value { result.now ≡ self.now.entries }
+        ensures rising { AreRising self.now.entries }
+    {
+        &self.slots
     }
 
     /// The first entry above a position, if there is one. Positions rise along the entries, so no other entry above it
