@@ -1,4 +1,4 @@
-ghost use Rattle.std.specs.Prelude.{◌≡◌, ◌↔◌, ◌<◌, ◌≤◌, Contains, IsTrue, length};
+ghost use Rattle.std.specs.Prelude.{◌≡◌, ◌↔◌, ◌^◌, ◌<◌, ◌≤◌, ℕ, Contains, IsTrue};
 ghost use Rattle.std.specs.Option.{option_copied};
 ghost use Rattle.maintainer.specs.Maintainers.{value_at};
 ghost use Rattle.stage_world.specs.MoreTurns.{record_kept};
@@ -90,6 +90,7 @@ fn kept(maintainer: &Maintainer<Record>, lid: Lid) -> Option<&Record>
 
 // Whether one of the maintainers has let the position go.
 fn has_gone(maintainers: &[Maintainer<Record>], lid: Lid) -> bool
+    requires { (p : ℕ) → Contains (gone_in maintainers.now) p → p < 2 ^ 48 }
     ensures { IsTrue result ↔ Contains (gone_in maintainers.now) lid }
 {
     maintainers
