@@ -1,4 +1,5 @@
 pub mod NewLemmas
+pub mod PinLemmas
 pub mod WholeTurns
 pub mod WholeLinks
 pub mod OpenedLemmas
