@@ -1,5 +1,5 @@
 //! The turns of a whole datacentre: where a member is not there nothing happens, else it is lent its stages.
-ghost use Rattle.std.specs.Prelude.{◌≡◌, ◌<◌, ◌&&◌, [], nat_lt, length, slice_index_or, All, IfOk};
+ghost use Rattle.std.specs.Prelude.{◌≡◌, ◌<◌, ◌&&◌, [], false, nat_lt, length, slice_index_or, All, IfOk};
 ghost use Rattle.abstract_log.specs.declared.script.Outcome.TheVariants.{Absent};
 ghost use Rattle.record_codec.specs.declared.message.Message.{Message};
 ghost use Rattle.record_codec.specs.Wire.{SpellsMessage};
@@ -9,12 +9,11 @@ ghost use Rattle.stage_world.specs.Turns.{flush_turn, gossip_turn, pass_turn, pl
 ghost use Rattle.stage_world.specs.MoreTurns.{learn_turn, receive_turn};
 ghost use Rattle.datacentre.specs.Seen.{seen};
 ghost use Rattle.stage_world.specs.Schedules.{turn_of};
-ghost use Rattle.datacentre.specs.Clients.{writes};
-ghost use Rattle.datacentre.specs.Told.{IsToldBy};
+ghost use Rattle.stage_turns.specs.Clients.{writes};
+ghost use Rattle.stage_turns.specs.Told.{IsToldBy};
 ghost use Rattle.datacentre.specs.Turning.{IsBuilt, IsBuiltCommand, IsPacketOf, IsTurned, MayTurn, send_told};
 
 use crate::parts::Parts;
-use crate::stamping::place_of;
 use crate::{TurnDone, turns};
 use abstract_log::{Outcome, Step};
 use cz_base::{DcId, NoMemory, Seq};
@@ -142,7 +141,7 @@ impl Parts {
         requires built { All (λ x. All IsBuiltCommand x.commands) self.old.sessions }
         ensures { IfOk result (λ done. IsTurned self.old self.new done (client_turn self.old.dc (seen self.old) s)) }
     {
-        let Some(at) = place_of(&self.sessions, s) else {
+        let Some(at) = turns::place_of(&self.sessions, s) else {
             return Ok(self.absent());
         };
         if self.writes(at) {
@@ -207,11 +206,12 @@ impl Parts {
 
     // What is answered where a member is not there.
     fn absent(&self) -> TurnDone
-        ensures { result ≡ record { outcome = Absent; events = [] } }
+        ensures { result ≡ record { outcome = Absent; events = []; changed = false } }
     {
         TurnDone {
             outcome: Outcome::Absent,
             events: Seq::new(self.queues.alloc()),
+            changed: false,
         }
     }
 }
