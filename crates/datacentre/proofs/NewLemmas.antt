@@ -5,7 +5,8 @@ use Rattle.std.proofs.lemmas.List.{get_or-set_same, get_or-set_other, length-set
 use Rattle.flstore_rounds.specs.Epochs.{EpochList}
 use Rattle.flstore_rounds.specs.Heads.{Pair}
 use Rattle.token_queue.specs.Queues.{QueueState, TokenState, tokenless}
-use Rattle.stage_world.specs.Stages.{Indexer, no_queue, queue_at}
+use Rattle.tag_indexer.specs.Indexers.{IndexerState}
+use Rattle.stage_world.specs.Stages.{no_queue, queue_at}
 use Rattle.stage_world.specs.MoreTurns.{new_queue}
 use Rattle.stage_world.specs.Opening.{numbered}
 use Rattle.stage_world.proofs.OpeningLemmas.{length-numbered, get_or-numbered}
@@ -88,4 +89,4 @@ pub indexers_new : (n : ℕ) (v : Pair) → indexers_from 0 (replicate n v) ≡ 
 indexers_new zero v = refl
 indexers_new (suc n) v =
     let last : 0 + n ≡ n = omega arith in
-    indexers_push 0 n v ∙ ap₂ (λ (is : List Indexer) (i : ℕ). is ++ (record { number = i; pair = v; rows = [] }) ∷ []) (indexers_new n v) last
+    indexers_push 0 n v ∙ ap₂ (λ (is : List IndexerState) (i : ℕ). is ++ (record { number = i; pair = v; rows = [] }) ∷ []) (indexers_new n v) last

@@ -5,7 +5,8 @@ use Rattle.flstore_rounds.specs.Epochs.{EpochList}
 use Rattle.flstore_rounds.specs.Heads.{Pair}
 use Rattle.token_queue.specs.Queues.{TokenState}
 use Rattle.log_laws.specs.Lawful.{IsLawful}
-use Rattle.stage_world.specs.Stages.{Datacentre, Indexer}
+use Rattle.tag_indexer.specs.Indexers.{IndexerState}
+use Rattle.stage_world.specs.Stages.{Datacentre}
 use Rattle.stage_world.specs.StandsFor.{StandsAt}
 use Rattle.datacentre.specs.declared.parts.Parts.{Parts}
 use Rattle.stage_turns.specs.Lent.{HaveToken, maintainers_seen, queues_seen, token_seen}
@@ -16,7 +17,7 @@ pub record DatacentreState : Type 0 where
   pub stages : Option Datacentre
 
 -- indexers by number that were posted nothing yet
-abbrev pub indexers_from : ℕ → List Pair → List Indexer
+abbrev pub indexers_from : ℕ → List Pair → List IndexerState
 indexers_from n [] = []
 indexers_from n (v ∷ vs) = record { number = n; pair = v; rows = [] } ∷ indexers_from (n + 1) vs
 
