@@ -162,6 +162,14 @@ impl<T> Maintainer<T> {
         has_position_within(&self.gone, low, top)
     }
 
+    /// Its entries: what stands where, by rising position.
+    pub fn entries(&self) -> &[Slot<T>]
+        ensures value { result.now ≡ self.now.entries }
+        ensures rising { AreRising self.now.entries }
+    {
+        &self.slots
+    }
+
     /// The first entry above a position, if there is one. Positions rise along the entries, so no other entry above it
     /// is nearer.
     pub fn next_after(&self, lid: Lid) -> Option<&Slot<T>>
