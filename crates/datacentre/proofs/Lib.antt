@@ -3,3 +3,4 @@ pub mod WholeTurns
 pub mod WholeLinks
 pub mod OpenedLemmas
 pub mod LiveLemmas
+pub mod LeftLemmas

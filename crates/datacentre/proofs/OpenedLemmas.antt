@@ -40,6 +40,7 @@ pub record AreNew (sizes : Sizes) (load : Workload) (d : ℕ) (e : EpochList) (s
   pub receivers : p.receivers ≡ sizes.receivers
   pub table : p.table ≡ record { dc = d; table = zero_table load.dcs }
   pub learnt : p.learnt ≡ 0
+  pub collected : p.collected ≡ []
 
 -- the opening with these epochs and this map
 abbrev opening_with : Sizes → Workload → ℕ → EpochList → List (List Share) → Datacentre
@@ -58,6 +59,7 @@ opening_with sizes load d e shares = record {
   table = zero_table load.dcs;
   learnt = 0;
   floor = 0;
+  collected = [];
   senders = sizes.senders;
   receivers = sizes.receivers;
 }
@@ -91,6 +93,7 @@ module _ (round : ℕ) (sizes : Sizes) (load : Workload) (d : ℕ) (e : EpochLis
     table = (h.table i).table;
     learnt = h.learnt i;
     floor = 0;
+    collected = h.collected i;
     senders = senders_first i;
     receivers = h.receivers i;
   }

@@ -38,6 +38,7 @@ seen p = record {
   table = p.table.table;
   learnt = p.learnt;
   floor = 0;
+  collected = p.collected;
   senders = length p.senders;
   receivers = p.receivers;
 }

@@ -7,21 +7,23 @@ ghost use Rattle.stage_world.specs.Stages.{sizes_of};
 ghost use Rattle.stage_world.specs.Schedules.{turn_of};
 ghost use Rattle.datacentre.specs.Seen.{IsWhole, StandsForALog, seen};
 ghost use Rattle.stage_turns.specs.Clients.{is_unanswered};
+ghost use Rattle.datacentre.specs.Leaving.{IsLeftBy};
 ghost use Rattle.datacentre.specs.Turning.{IsBuilt, Sends, TakesTurn};
 ghost use Rattle.stage_turns.specs.Told.{IsToldBy};
 ghost use Rattle.record_codec.specs.declared.message.Message.{Message};
 ghost use Rattle.record_codec.specs.Wire.{SpellsMessage};
 ghost use Rattle.stage_world.specs.MoreTurns.{message_of, receive_turn};
 
+use crate::leaving::leave;
 use crate::opening::{
     new_batchers, new_filters, new_maintainers, new_ring, new_senders, new_sessions, new_vectors,
 };
 use crate::parts::Parts;
 use crate::{Session, TurnDone, turns};
-use abstract_log::{Sizes, Step, Workload};
+use abstract_log::{LeftAt, Sizes, Step, Workload};
 use awareness_table::Aware;
 use causal_deps::Counts;
-use cz_base::{DcId, NoMemory};
+use cz_base::{DcId, NoMemory, Seq};
 use flstore_rounds::Epochs;
 use lossy_links::Packet;
 use std::alloc::Global;
@@ -179,6 +181,17 @@ impl Datacentre {
         )
     }
 
+    /// What it leaves: what stands at each position of its log, and its table. The records are moved, and all else is given back.
+    pub fn leave(self) -> Result<LeftAt, NoMemory>
+        ensures { IfOk result (IsLeftBy self) }
+    {
+        let Datacentre { parts, failed } = self;
+        if failed {
+            return Err(NoMemory);
+        }
+        leave(parts)
+    }
+
     /// Whether one of its sessions has a command that is not answered.
     pub fn unanswered(&self) -> bool
         ensures { ForSome self.now.stages (λ z. result ≡ list_any is_unanswered z.sessions) }
@@ -237,5 +250,6 @@ fn new_parts(
         receivers: sizes.receivers,
         table: Aware::new(dc, dcs),
         learnt: 0,
+        collected: Seq::new(alloc),
     })
 }

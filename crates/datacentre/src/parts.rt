@@ -1,7 +1,7 @@
 use crate::Session;
 use awareness_table::Aware;
 use batcher::Batcher;
-use causal_deps::Record;
+use causal_deps::{Place, Record};
 use cz_base::{DcId, Lid, Seq};
 use head_gossip::Vector;
 use maintainer::Maintainer;
@@ -29,4 +29,6 @@ pub(crate) struct Parts {
     pub table: Aware,
     /// The position up to which the own row counts.
     pub learnt: Lid,
+    /// Where the records stood that were collected.
+    pub collected: Seq<Place>,
 }

@@ -8,7 +8,7 @@ use crate::Slot;
 use crate::positions::{has_position, has_position_within, positions_below};
 use crate::slot::{mark_past, slot_after, slots_below, value_of};
 use causal_deps::Shown;
-use cz_base::{Lid, NoMemory};
+use cz_base::{Lid, NoMemory, Seq};
 use flstore_rounds::Epochs;
 use std::alloc::Global;
 use std::marker::Model;
@@ -133,6 +133,14 @@ impl<T> Maintainer<T> {
             .insert(positions_below(&self.gone, lid), lid)
             .unwrap();
         value
+    }
+
+    /// Its entries, which are moved out.
+    pub fn into_slots(self) -> Seq<Slot<T>>
+        ensures { result ≡ self.entries }
+    {
+        let Maintainer { slots, .. } = self;
+        Seq::from_vec(slots)
     }
 
     /// What stands at an own position.

@@ -77,6 +77,7 @@ replayed script more played finished is = record {
   lines = is.lines;
   is_run = is.is_run;
   finished = subst (λ (es : List Event). IsFinished (world_of script.workload es)) (sym is.events) finished;
+  left = is.left;
 }
 
 pub answered_if : (b : Bool) (x : DatacentreState) → ForSome x.stages (λ z. b ≡ list_any is_unanswered z.sessions) → not b ≡ true → IsAnswered x

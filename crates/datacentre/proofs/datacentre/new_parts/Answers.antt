@@ -19,6 +19,7 @@ returns-clause-stages c =
       receivers = c.args.sizes.now.receivers;
       table = c.new.result;
       learnt = 0;
+      collected = c.new-collected.result;
     }) (record {
       here = refl;
       first = refl;
@@ -35,6 +36,7 @@ returns-clause-stages c =
       receivers = refl;
       table = c.new.ensures;
       learnt = refl;
+      collected = c.new-collected.ensures;
     }) c.in_ok-epochs.ensures c.in_ok-map.ensures
 
 pub returns-clause-whole : goal.returns-clause-whole
@@ -54,6 +56,7 @@ returns-clause-whole c =
       receivers = c.args.sizes.now.receivers;
       table = c.new.result;
       learnt = 0;
+      collected = c.new-collected.result;
     }) (record {
       here = refl;
       first = refl;
@@ -70,4 +73,5 @@ returns-clause-whole c =
       receivers = refl;
       table = c.new.ensures;
       learnt = refl;
+      collected = c.new-collected.ensures;
     })
