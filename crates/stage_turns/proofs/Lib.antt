@@ -17,3 +17,4 @@ pub mod TellingLemmas
 pub mod StockLemmas
 pub mod NewsLemmas
 pub mod ToldLemmas
+pub mod CollectingLemmas

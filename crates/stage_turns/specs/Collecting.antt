@@ -1,11 +1,14 @@
 -- How far the collection floor rises, and which entries of a maintainer may go.
-use Rattle.std.specs.Prelude.{◌≡◌, ℕ, ◌<◌, ◌≤◌, ◌==◌, ◌&&◌, ◌||◌, Bool, true, not, nat_lt, nat_le, List, length, map, find, filter, fold, min, Option, Some, None, All, unwrap_or}
+use Rattle.std.specs.Prelude.{◌≡◌, ℕ, ◌<◌, ◌≤◌, ◌==◌, ◌&&◌, ◌||◌, Bool, true, not, nat_lt, nat_le, List, length, map, find, filter, fold, min, Option, Some, None, All, slice_get, unwrap_or}
 use Rattle.std.specs.List.{list_all}
+use Rattle.std.specs.Option.{option_and_then}
+use Rattle.causal_deps.specs.declared.record.Kind.{Kind}
+use Rattle.causal_deps.specs.declared.record.Kind.TheVariants.{Append, Put}
 use Rattle.causal_deps.specs.declared.record.Record.{Record}
 use Rattle.causal_deps.specs.declared.record.Place.{Place}
 use Rattle.causal_deps.specs.declared.answers.Newest.{Newest}
 use Rattle.causal_deps.specs.declared.answers.Newest.TheVariants.{Behind, Found, Absent}
-use Rattle.abstract_log.specs.Answers.{is_put, place_at}
+use Rattle.abstract_log.specs.Answers.{is_put}
 use Rattle.awareness_table.specs.Awareness.{is_known_everywhere}
 use Rattle.flstore_rounds.specs.Heads.{head}
 use Rattle.log_gc.specs.Floors.{Floored, raised}
@@ -38,6 +41,14 @@ newest_lid (Behind covered) = None
 newest_lid (Found lid) = Some lid
 newest_lid Absent = None
 
+-- the last put of a record's key at or below s, if it is a put and the key's home is that far
+abbrev pub newest_for : List IndexerState → Kind → List (List ℕ) → ℕ → Option ℕ
+newest_for is Append tags s = None
+newest_for is Put tags s = option_and_then (λ key. newest_lid (newest_found (home_among is key) key s)) (slice_get tags 0)
+
+abbrev pub newest_of : List IndexerState → Record → ℕ → Option ℕ
+newest_of is r s = newest_for is r.kind r.tags s
+
 -- the record at an entry may go
 abbrev pub may_go : ℕ → List (List ℕ) → List IndexerState → Slot Record → Bool
 may_go floor table is e =
@@ -48,12 +59,12 @@ may_go floor table is e =
 abbrev pub to_go : ℕ → List (List ℕ) → List IndexerState → List (Slot Record) → List (Slot Record)
 to_go floor table is es = filter (may_go floor table is) es
 
--- the position of an entry, and the place of its record
+-- the position of an entry, and of a place
 abbrev pub lid_at : Slot Record → ℕ
 lid_at e = e.lid
 
-abbrev pub place_of : Slot Record → Place
-place_of e = place_at e.lid e.value
+abbrev pub lid_of_place : Place → ℕ
+lid_of_place place = place.lid
 
 -- A record is of one of so many datacentres, and a put has one tag.
 pub record IsKeyed (dcs : ℕ) (r : Record) : Type 0 where

@@ -8,3 +8,4 @@ pub mod Telling
 pub mod Learning
 pub mod Told
 pub mod Rising
+pub mod Collecting

@@ -1,13 +1,14 @@
-ghost use Rattle.std.specs.Prelude.{◌≡◌, ◌<◌, ◌≤◌, ◌++◌, [], length, fold, map, nat_lt, All, IfOk, OnOk, IsSome};
+ghost use Rattle.std.specs.Prelude.{◌≡◌, ◌<◌, ◌++◌, [], length, fold, map, min, nat_lt, All, IfOk, OnOk, IsSome};
+ghost use Rattle.std.specs.List.{AllPairs};
 ghost use Rattle.abstract_log.specs.declared.event.Event.TheVariants.{Collect as CollectEvent};
 ghost use Rattle.abstract_log.specs.declared.script.Outcome.TheVariants.{FloorAt as FloorIsAt};
 ghost use Rattle.flstore_rounds.specs.Heads.{head};
 ghost use Rattle.maintainer.specs.Maintainers.{collected, value_at};
 ghost use Rattle.tag_indexer.specs.Indexers.{newest_found};
 ghost use Rattle.tag_indexer.specs.Rows.{home};
-ghost use Rattle.stage_world.specs.MoreTurns.{collected_outcome};
+ghost use Rattle.stage_world.specs.MoreTurns.{collected_outcome, place_of_entry};
 ghost use Rattle.stage_turns.specs.Changing.{has_some};
-ghost use Rattle.stage_turns.specs.Collecting.{AreApart, AreHomes, IsKeyed, MayCollect, covered_by, home_among, lid_at, lid_of_place, may_go, newest_of, place_of, risen, to_go};
+ghost use Rattle.stage_turns.specs.Collecting.{AreHomes, IsKeyed, MayCollect, covered_by, home_among, lid_at, lid_of_place, may_go, newest_lid, newest_of, risen, to_go};
 
 use crate::TurnDone;
 use crate::done::has_some;
@@ -69,7 +70,7 @@ pub fn collect(
 ) -> Result<TurnDone, NoMemory>
     requires may { MayCollect (length table.now.table) indexers.now maintainer.old.entries }
     ensures maintainer { OnOk result (maintainer.new ≡ fold collected maintainer.old (map lid_at (to_go floor.now.floor table.now.table indexers.now maintainer.old.entries))) }
-    ensures collected { OnOk result (collected.new ≡ collected.old ++ map place_of (to_go floor.now.floor table.now.table indexers.now maintainer.old.entries)) }
+    ensures collected { OnOk result (collected.new ≡ collected.old ++ map place_of_entry (to_go floor.now.floor table.now.table indexers.now maintainer.old.entries)) }
     ensures outcome { IfOk result (λ done. done.outcome ≡ collected_outcome (map lid_at (to_go floor.now.floor table.now.table indexers.now maintainer.old.entries))) }
     ensures events { IfOk result (λ done. done.events ≡ map (CollectEvent dc) (map lid_at (to_go floor.now.floor table.now.table indexers.now maintainer.old.entries))) }
     ensures changed { IfOk result (λ done. done.changed ≡ has_some (to_go floor.now.floor table.now.table indexers.now maintainer.old.entries)) }
@@ -102,7 +103,7 @@ fn places_to_go(
     floor: &Gc,
 ) -> Result<Seq<Place>, NoMemory>
     requires { MayCollect (length table.now.table) indexers.now entries.now }
-    ensures { IfOk result (λ places. places ≡ map place_of (to_go floor.now.floor table.now.table indexers.now entries.now)) }
+    ensures { IfOk result (λ places. places ≡ map place_of_entry (to_go floor.now.floor table.now.table indexers.now entries.now)) }
 {
     let mut places = Seq::new(alloc);
     for slot in entries {
@@ -115,7 +116,7 @@ fn places_to_go(
 
 // Where the entry's record stands.
 fn place_of(slot: &Slot<Record>) -> Place
-    ensures { result ≡ place_of slot.now }
+    ensures { result ≡ place_of_entry slot.now }
 {
     Place {
         lid: slot.lid,
@@ -196,7 +197,7 @@ fn collect_events(dc: DcId, lids: &Seq<Lid>) -> Result<Seq<Event>, NoMemory>
 // The maintainer lets the values at these positions go, one after another.
 fn let_go(maintainer: &mut Maintainer<Record>, lids: &Seq<Lid>)
     requires there { All (λ p. IsSome (value_at p maintainer.old.entries)) lids.now }
-    requires apart { AreApart lids.now }
+    requires rising { AllPairs (λ p q. p < q) lids.now }
     ensures { maintainer.new ≡ fold collected maintainer.old lids.now }
 {
     for lid in lids.as_slice() {
