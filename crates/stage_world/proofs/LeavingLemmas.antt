@@ -20,7 +20,7 @@ use Rattle.maintainer.proofs.CountLemmas.{entry_counts}
 use Rattle.token_queue.specs.declared.entry.Entry.{Entry}
 use Rattle.token_queue.specs.Queues.{QueueState, times_among, waiting}
 use Rattle.stage_world.specs.Stages.{Datacentre, filled, slot_of, waiting_in}
-use Rattle.stage_world.specs.StandsFor.{StandsAt, IsPlaceIn, gone_times, position_in}
+use Rattle.stage_world.specs.StandsFor.{StandsAt, IsNamed, gone_times, position_in}
 use Rattle.stage_world.specs.Leaving.{blank_rows, rows_told, slots_in, slots_kept, slots_waiting, with_place, with_row, with_slot}
 use Rattle.stage_world.proofs.FilledLemmas.{times_in-flat_map, All-flat_map}
 
@@ -127,7 +127,7 @@ module _ (log : List Record) (gone : List ℕ) where
         ∙ cond-false {A = Row} (is_collected gone (s.lid - 1 + 1)) (Gone s.value.host s.value.toid) (Kept s.value) (ap (is_collected gone) (omega (arith, stands.first)) ∙ not_collected s.lid gone none);
   }
 
-  gone_right : (place : Place) → IsPlaceIn log place → 1 ≤ place.lid → 1 ≤ times place.lid gone → IsRowAt place.lid (Gone place.host place.toid)
+  gone_right : (place : Place) → IsNamed log place → 1 ≤ place.lid → 1 ≤ times place.lid gone → IsRowAt place.lid (Gone place.host place.toid)
   gone_right place stands first some = record {
     first = first;
     within = omega (arith, slice_get_within log (place.lid - 1) stands.rec stands.stands, first);
@@ -220,7 +220,7 @@ module _ (w : World) (d : ℕ) (z : Datacentre) (h : StandsAt w d z) where
   all_gone = λ k x within.
       let place : Place = get_or z.collected k x in
       let counted : 1 ≤ times place.lid named = place_counts z.collected k x within in
-      gone_right log gone place (h.named.places k x within) (position_first log place.lid (omega (arith, in_one_place place.lid, counted))) (omega (arith, counted, h.named.once place.lid))
+      gone_right log gone place (h.named.each k x within) (position_first log place.lid (omega (arith, in_one_place place.lid, counted))) (omega (arith, counted, h.named.once place.lid))
 
   pub rows_are : rows_told z.token.last z.queues z.maintainers z.collected ≡ rows_of log gone
   rows_are =
