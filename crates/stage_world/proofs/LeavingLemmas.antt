@@ -53,7 +53,8 @@ length-rows gone n (r ∷ rs) = ap suc (length-rows gone (n + 1) rs)
 row_there : (gone : List ℕ) (n : ℕ) (log : List Record) (k : ℕ) (r : Record) (x : Row) → slice_get log k ≡ Some r → get_or (rows_from gone n log) k x ≡ row_at gone (k + n) r
 row_there gone n [] k r x is = absurd (cc)
 row_there gone n (y ∷ ys) zero r x is =
-    let same : y ≡ r = cc in ap (row_at gone n) same
+    let same : y ≡ r = cc in
+    let number : n ≡ 0 + n = omega arith in ap (row_at gone n) same ∙ ap (λ p. row_at gone p r) number
 row_there gone n (y ∷ ys) (suc k) r x is = row_there gone (n + 1) ys k r x is ∙ ap (λ p. row_at gone p r) (omega arith)
 
 -- Rows that come to be those of a log with these positions collected.
