@@ -66,17 +66,17 @@ pub fn collect(
     indexers: &Seq<Indexer>,
     table: &Aware,
     floor: &Gc,
-    collected: &mut Seq<Place>,
+    names: &mut Seq<Place>,
 ) -> Result<TurnDone, NoMemory>
     requires may { MayCollect (length table.now.table) indexers.now maintainer.old.entries }
     ensures maintainer { OnOk result (maintainer.new ≡ fold collected maintainer.old (map lid_at (to_go floor.now.floor table.now.table indexers.now maintainer.old.entries))) }
-    ensures collected { OnOk result (collected.new ≡ collected.old ++ map place_of_entry (to_go floor.now.floor table.now.table indexers.now maintainer.old.entries)) }
+    ensures names { OnOk result (names.new ≡ names.old ++ map place_of_entry (to_go floor.now.floor table.now.table indexers.now maintainer.old.entries)) }
     ensures outcome { IfOk result (λ done. done.outcome ≡ collected_outcome (map lid_at (to_go floor.now.floor table.now.table indexers.now maintainer.old.entries))) }
     ensures events { IfOk result (λ done. done.events ≡ map (CollectEvent dc) (map lid_at (to_go floor.now.floor table.now.table indexers.now maintainer.old.entries))) }
     ensures changed { IfOk result (λ done. done.changed ≡ has_some (to_go floor.now.floor table.now.table indexers.now maintainer.old.entries)) }
 {
     let places = places_to_go(
-        collected.alloc(),
+        names.alloc(),
         maintainer.entries(),
         indexers.as_slice(),
         table,
@@ -86,7 +86,7 @@ pub fn collect(
     let events = collect_events(dc, &lids)?;
     let changed = has_some(&places);
     let_go(maintainer, &lids);
-    collected.append(places)?;
+    names.append(places)?;
     Ok(TurnDone {
         outcome: collected_at(lids),
         events,
@@ -164,7 +164,7 @@ fn newest_lid(newest: Newest) -> Option<Lid>
 }
 
 /// The indexer that a tag is looked up at.
-pub(crate) fn home_indexer(indexers: &[Indexer], tag: &Name) -> &Indexer
+pub(crate) fn home_indexer<'a>(indexers: &'a [Indexer], tag: &Name) -> &'a Indexer
     requires { AreHomes indexers.now }
     ensures value { result.now ≡ home_among indexers.now tag.now }
     ensures home { home tag.now result.now.indexers ≡ result.now.number }
