@@ -18,3 +18,4 @@ pub mod StockLemmas
 pub mod NewsLemmas
 pub mod ToldLemmas
 pub mod CollectingLemmas
+pub mod CollectTurns

@@ -14,11 +14,12 @@ returns-clause-stages c =
       queues = c.in_ok-new_ring.field-0;
       maintainers = c.in_ok-new_maintainers.field-0;
       vectors = c.in_ok-new_vectors.field-0;
-      indexers = c.in_ok-new_vectors-2.field-0;
+      indexers = c.in_ok-new_indexers.field-0;
       senders = c.in_ok-new_senders.field-0;
       receivers = c.args.sizes.now.receivers;
       table = c.new.result;
       learnt = 0;
+      floor = c.new-floor.result;
       collected = c.new-collected.result;
     }) (record {
       here = refl;
@@ -31,11 +32,12 @@ returns-clause-stages c =
       token = c.in_ok-new_ring.ensures.token;
       maintainers = c.in_ok-new_maintainers.ensures;
       vectors = c.in_ok-new_vectors.ensures;
-      indexers = c.in_ok-new_vectors-2.ensures;
+      indexers = c.in_ok-new_indexers.ensures;
       senders = c.in_ok-new_senders.ensures;
       receivers = refl;
       table = c.new.ensures;
       learnt = refl;
+      floor = c.new-floor.ensures;
       collected = c.new-collected.ensures;
     }) c.in_ok-epochs.ensures c.in_ok-map.ensures
 
@@ -51,11 +53,12 @@ returns-clause-whole c =
       queues = c.in_ok-new_ring.field-0;
       maintainers = c.in_ok-new_maintainers.field-0;
       vectors = c.in_ok-new_vectors.field-0;
-      indexers = c.in_ok-new_vectors-2.field-0;
+      indexers = c.in_ok-new_indexers.field-0;
       senders = c.in_ok-new_senders.field-0;
       receivers = c.args.sizes.now.receivers;
       table = c.new.result;
       learnt = 0;
+      floor = c.new-floor.result;
       collected = c.new-collected.result;
     }) (record {
       here = refl;
@@ -68,10 +71,11 @@ returns-clause-whole c =
       token = c.in_ok-new_ring.ensures.token;
       maintainers = c.in_ok-new_maintainers.ensures;
       vectors = c.in_ok-new_vectors.ensures;
-      indexers = c.in_ok-new_vectors-2.ensures;
+      indexers = c.in_ok-new_indexers.ensures;
       senders = c.in_ok-new_senders.ensures;
       receivers = refl;
       table = c.new.ensures;
       learnt = refl;
+      floor = c.new-floor.ensures;
       collected = c.new-collected.ensures;
     })
