@@ -59,11 +59,11 @@ pins_at_least m n (x ∷ xs) each p is = pin_there m n x xs (eqb x.number n) (Al
 same_least : (g : Floored) (xs : List Session) (n : ℕ) → ((i : ℕ) (x : Session) → i < length xs → get_or xs i x ≡ x → pin_of g x.number ≡ x.pin) → ((k : ℕ) → pin_of g k ≡ pin_in xs k) → lowest n g.pins ≡ least_with n (pins_of xs)
 same_least g xs n held pins =
     let under : lowest n g.pins ≤ least_with n (pins_of xs) = pins_greatest (lowest n g.pins) n xs (lowest_bound n g.pins)
-        (λ k d inside s is.
-        let x : Session = get_or xs k d in
-        lowest_pin n x.number s g.pins (held k x inside (get_or_default xs k x d inside) ∙ is)) in
+    (λ k d inside s is.
+    let x : Session = get_or xs k d in
+    lowest_pin n x.number s g.pins (held k x inside (get_or_default xs k x d inside) ∙ is)) in
     let over : least_with n (pins_of xs) ≤ lowest n g.pins = lowest_greatest (least_with n (pins_of xs)) n g.pins (least-le n (pins_of xs))
-        (λ session s at. pins_at_least (least_with n (pins_of xs)) session xs (pins_least n xs) s (sym (pins session) ∙ at)) in
+    (λ session s at. pins_at_least (least_with n (pins_of xs)) session xs (pins_least n xs) s (sym (pins session) ∙ at)) in
     omega (arith, under, over)
 
 -- a bound of all is one of the first

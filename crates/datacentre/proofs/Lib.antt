@@ -5,4 +5,4 @@ pub mod WholeLinks
 pub mod OpenedLemmas
 pub mod LiveLemmas
 pub mod LeftLemmas
-mod FloorTurns
+pub mod FloorTurns
