@@ -5,3 +5,4 @@ pub mod WholeLinks
 pub mod OpenedLemmas
 pub mod LiveLemmas
 pub mod LeftLemmas
+pub mod FloorTurns

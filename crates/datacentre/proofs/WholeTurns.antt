@@ -45,7 +45,7 @@ if_five (Ok x) A B P Q R S a b p q t f = f x a b p q t
 if_five (Err e) A B P Q R S a b p q t f = tt
 
 -- the element that is lent
-lent_is : {X : Type 0} (xs : List X) (i : ℕ) (x d : X) → x ≡ get_or xs i x → i < length xs → x ≡ get_or xs i d
+pub lent_is : {X : Type 0} (xs : List X) (i : ℕ) (x d : X) → x ≡ get_or xs i x → i < length xs → x ≡ get_or xs i d
 lent_is xs i x d is within = is ∙ get_or_default xs i x d within
 
 both_true : (a b : Bool) → a ≡ true → b ≡ true → (a && b) ≡ true
@@ -56,7 +56,7 @@ pub told_of : (old new : Datacentre) (c b : Bool) → c ≡ b → TellsChange b 
 told_of old new c b is h = subst (λ t. TellsChange t old new) (sym is) h
 
 -- the members are there
-there : (p new : Parts) (done : TurnDone) (b : Bool) (turned : Turned) → b ≡ true → IsTurned p new done turned → IsTurned p new done (where_there b (seen p) turned)
+pub there : (p new : Parts) (done : TurnDone) (b : Bool) (turned : Turned) → b ≡ true → IsTurned p new done turned → IsTurned p new done (where_there b (seen p) turned)
 there p new done b turned is h = subst (λ x. IsTurned p new done (where_there x (seen p) turned)) (sym is) h
 
 -- a member is not there
@@ -199,14 +199,14 @@ token_moved_is p qs done may queues token has outcome events changed = record {
 
 -- place
 
-maintainer_lent : (p : Parts) (m : ℕ) (x : MaintainerState Record) → m < length p.maintainers → x ≡ get_or p.maintainers m x → plain x ≡ maintainer_at (maintainers_seen p.maintainers) m
+pub maintainer_lent : (p : Parts) (m : ℕ) (x : MaintainerState Record) → m < length p.maintainers → x ≡ get_or p.maintainers m x → plain x ≡ maintainer_at (maintainers_seen p.maintainers) m
 maintainer_lent p m x within is =
     ap plain (lent_is p.maintainers m x no_maintainer is within) ∙ sym (get_or-map (λ (y : MaintainerState Record). plain y) p.maintainers m no_maintainer no_maintainer within)
 
 queue_lent : (p : Parts) (q : ℕ) (x : QueueState) → q < length p.queues → x ≡ get_or p.queues q x → tokenless x ≡ queue_at (queues_seen p.queues) q
 queue_lent p q x within is = ap tokenless (lent_is p.queues q x no_queue is within) ∙ queue_seen p.queues (queues_seen p.queues) q refl
 
-as_many : (p : Parts) → length (maintainers_seen p.maintainers) ≡ length p.maintainers
+pub as_many : (p : Parts) → length (maintainers_seen p.maintainers) ≡ length p.maintainers
 as_many p = length-map p.maintainers (λ (y : MaintainerState Record). plain y)
 
 pub member_few : (p : Parts) (m : ℕ) → MayTurn p → m < length p.maintainers → m < 16
@@ -271,7 +271,7 @@ gossip_is p m k x x' vs done may in_m in_k is same told outcome events changed =
 
 -- learn
 
-first_there : (p : Parts) → MayTurn p → 0 < length p.vectors
+pub first_there : (p : Parts) → MayTurn p → 0 < length p.vectors
 first_there p may = omega (arith, may.log.stands.served.0, may.log.stands.served.1)
 
 pub vector_there : (p : Parts) → MayTurn p → 0 < length p.vectors

@@ -16,7 +16,8 @@ ghost use Rattle.stage_world.specs.MoreTurns.{message_of, receive_turn};
 
 use crate::leaving::leave;
 use crate::opening::{
-    new_batchers, new_filters, new_indexers, new_maintainers, new_ring, new_senders, new_sessions, new_vectors,
+    new_batchers, new_filters, new_indexers, new_maintainers, new_ring, new_senders, new_sessions,
+    new_vectors,
 };
 use crate::parts::Parts;
 use crate::{Session, TurnDone, turns};

@@ -104,11 +104,7 @@ pub(crate) fn new_vectors(alloc: Global, n: u32, epochs: &Epochs) -> Result<Seq<
 }
 
 /// So many indexers, to which nothing was posted.
-pub(crate) fn new_indexers(
-    alloc: Global,
-    n: u32,
-    epochs: &Epochs,
-) -> Result<Seq<Indexer>, NoMemory>
+pub(crate) fn new_indexers(alloc: Global, n: u32, epochs: &Epochs) -> Result<Seq<Indexer>, NoMemory>
     ensures { IfOk result (λ indexers. indexers ≡ numbered (λ i. nothing_posted i n epochs.now) n) }
 {
     let mut indexers = Seq::new(alloc);
