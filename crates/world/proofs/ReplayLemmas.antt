@@ -17,7 +17,8 @@ use Rattle.stage_world.specs.Stages.{Datacentre, Stages}
 use Rattle.stage_world.specs.Schedules.{IsStep}
 use Rattle.stage_world.specs.Whole.{datacentre_at}
 use Rattle.stage_world.proofs.AllTurns.{schedule}
-use Rattle.datacentre.specs.Seen.{DatacentreState, is_unanswered}
+use Rattle.datacentre.specs.Seen.{DatacentreState}
+use Rattle.stage_turns.specs.Clients.{is_unanswered}
 use Rattle.world.specs.declared.stages.Played.{Played}
 use Rattle.world.specs.Finishing.{HasCounts, IsAnswered, taken_of}
 use Rattle.world.specs.Replays.{IsReplayed}
@@ -76,6 +77,7 @@ replayed script more played finished is = record {
   lines = is.lines;
   is_run = is.is_run;
   finished = subst (λ (es : List Event). IsFinished (world_of script.workload es)) (sym is.events) finished;
+  left = is.left;
 }
 
 pub answered_if : (b : Bool) (x : DatacentreState) → ForSome x.stages (λ z. b ≡ list_any is_unanswered z.sessions) → not b ≡ true → IsAnswered x

@@ -3,7 +3,8 @@ use Rattle.std.specs.Prelude.{◌≡◌, ℕ, false, List, map}
 use Rattle.std.specs.List.{list_any}
 use Rattle.std.specs.Option.{ForSome}
 use Rattle.abstract_log.specs.declared.script.Step.{Step}
-use Rattle.datacentre.specs.Seen.{DatacentreState, is_unanswered}
+use Rattle.datacentre.specs.Seen.{DatacentreState}
+use Rattle.stage_turns.specs.Clients.{is_unanswered}
 use Rattle.world.specs.Taking.{Taken}
 
 -- no session of this datacentre has a command left

@@ -8,6 +8,7 @@
 
 mod calls;
 mod laws;
+mod leaving;
 mod linking;
 mod opening;
 mod packets;

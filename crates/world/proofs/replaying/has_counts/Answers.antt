@@ -1,4 +1,4 @@
-use Rattle.datacentre.proofs.LearningLemmas.{same_stored}
+use Rattle.stage_turns.proofs.LearningLemmas.{same_stored}
 use Rattle.world.proofs.ReplayLemmas.{counts_if}
 use Rattle.world.proofs.replaying.has_counts.Goals as goal
 
