@@ -12,6 +12,8 @@ pub mod ReadLemmas
 pub mod ClientMay
 pub mod ClientIs
 pub mod PlacingLemmas
+pub mod PostingLemmas
+pub mod PostingTurns
 pub mod LearningLemmas
 pub mod TellingLemmas
 pub mod StockLemmas

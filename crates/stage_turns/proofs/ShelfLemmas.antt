@@ -107,6 +107,7 @@ ranged low top p (q ∷ qs) has from upto = at has.0 has.1 has.2
   where
     rest : Bool
     rest = list_any (λ x. leb low x && ltb x top) qs
+
     at : (k : ℕ) → k < length (q ∷ qs) → get_or (q ∷ qs) k p ≡ p → list_any (λ x. leb low x && ltb x top) (q ∷ qs) ≡ true
     at zero within is = or_left (leb low q && ltb q top) rest (and_from (leb low q) (ltb q top) (le-leb low q (omega (arith, is, from))) (lt-ltb q top (omega (arith, is, upto))))
     at (suc k) within is = or_right (leb low q && ltb q top) rest (later k (omega (arith, within)) is)

@@ -93,7 +93,5 @@ fn has_gone(maintainers: &[Maintainer<Record>], lid: Lid) -> bool
     requires { (p : ℕ) → Contains (gone_in maintainers.now) p → p < 2 ^ 48 }
     ensures { IsTrue result ↔ Contains (gone_in maintainers.now) lid }
 {
-    maintainers
-        .iter()
-        .any(|maintainer| maintainer.has_gone_within(lid, lid.saturating_add(1)))
+    maintainers.iter().any(|maintainer| maintainer.has_gone_within(lid, lid.saturating_add(1)))
 }
