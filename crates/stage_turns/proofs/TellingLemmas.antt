@@ -72,9 +72,9 @@ module _ (vs : List Pair) (from to : ℕ) (own heard : Pair) where
   all_same at_from at_to k = elim (cases_eq k from) [
     | inl same ↦ subst AreSame (sym same) at_from
     | inr not_from ↦ elim (cases_eq k to) [
-        | inl same ↦ subst AreSame (sym same) at_to
-        | inr not_to ↦ elsewhere k not_from not_to
-      ]
+      | inl same ↦ subst AreSame (sym same) at_to
+      | inr not_to ↦ elsewhere k not_from not_to
+    ]
   ]
 
   same_marks : AreSame from → AreSame to → marks_in vs ≡ marks_in ws
