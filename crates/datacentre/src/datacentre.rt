@@ -179,6 +179,13 @@ impl Datacentre {
         )
     }
 
+    /// Its sessions, in order.
+    pub fn sessions(&self) -> &[Session]
+        ensures { ForSome self.now.stages (λ z. result.now ≡ z.sessions) }
+    {
+        self.parts.sessions.as_slice()
+    }
+
     /// Whether one of its sessions has a command that is not answered.
     pub fn unanswered(&self) -> bool
         ensures { ForSome self.now.stages (λ z. result ≡ list_any is_unanswered z.sessions) }

@@ -1,9 +1,9 @@
 -- Settling: the turns by which every command is answered and every log gets every record, as a function of the stages.
-use Rattle.std.specs.Prelude.{◌≡◌, ℕ, zero, suc, ◌+◌, ◌<◌, ◌%◌, ◌==◌, ◌||◌, Bool, true, false, not, if◌then◌else◌, nat_lt, List, [], ◌∷◌, ◌++◌, length, map, filter, flat_map}
+use Rattle.std.specs.Prelude.{◌≡◌, ◌⊎◌, ℕ, zero, suc, ◌+◌, ◌<◌, ◌%◌, ◌==◌, ◌||◌, Bool, true, false, not, if◌then◌else◌, nat_lt, List, [], ◌∷◌, ◌++◌, length, map, filter, flat_map}
 use Rattle.std.specs.List.{list_any, list_all}
 use Rattle.abstract_log.specs.declared.command.Workload.{Workload}
 use Rattle.abstract_log.specs.declared.script.Step.{Step}
-use Rattle.abstract_log.specs.declared.script.Step.TheVariants.{Client, Flush, Pass, Stamp, Token, Place, Gossip, Post, Learn, Send, Deliver}
+use Rattle.abstract_log.specs.declared.script.Step.TheVariants.{Client, Flush, Pass, Stamp, Token, Place, Gossip, Learn, Send, Deliver}
 use Rattle.stage_world.specs.Stages.{Datacentre, Session, Stages}
 use Rattle.stage_world.specs.Opening.{numbered}
 use Rattle.stage_world.specs.MoreTurns.{message_of, same_counts}
@@ -29,18 +29,15 @@ passes d z = numbered (λ f. Pass d f (f % length z.queues)) (length z.filters)
 abbrev pub ring : ℕ → Datacentre → List Step
 ring d z = flat_map (λ i. Stamp d ((z.token.at + i) % length z.queues) ∷ Token d ∷ []) (below (length z.queues))
 
--- .. each queue with each maintainer, each maintainer with each vector and with each indexer
+-- .. each queue with each maintainer, each maintainer with each vector
 abbrev pub places : ℕ → Datacentre → List Step
 places d z = flat_map (λ q. numbered (Place d q) (length z.maintainers)) (below (length z.queues))
 
 abbrev pub gossips : ℕ → Datacentre → List Step
 gossips d z = flat_map (λ m. numbered (Gossip d m) (length z.maintainers)) (below (length z.maintainers))
 
-abbrev pub posts : ℕ → Datacentre → List Step
-posts d z = flat_map (λ m. numbered (Post d m) (length z.indexers)) (below (length z.maintainers))
-
 abbrev pub local_round : ℕ → Datacentre → List Step
-local_round d z = clients z ++ flushes d z ++ passes d z ++ ring d z ++ places d z ++ gossips d z ++ posts d z ++ Learn d ∷ []
+local_round d z = clients z ++ flushes d z ++ passes d z ++ ring d z ++ places d z ++ gossips d z ++ Learn d ∷ []
 
 -- the local rounds of these datacentres, one after another; none changes what another does
 abbrev pub rounds : Stages → List ℕ → List Step
@@ -101,8 +98,11 @@ abbrev pub is_unfinished : Stages → Bool
 is_unfinished z = is_answering z || not (is_agreed z)
 
 -- a local round of each datacentre, then an exchange
+abbrev pub exchange_turns : Workload → Stages → List Step
+exchange_turns load z = exchange load z (errands z)
+
 abbrev pub telling_rounds : Workload → Stages → List Step
-telling_rounds load z = all_rounds z ++ exchange load (after_steps load z (all_rounds z)) (errands z)
+telling_rounds load z = all_rounds z ++ exchange_turns load (after_steps load z (all_rounds z))
 
 -- the stages after n passes of a loop, each of turns that its beginning decides, and those turns
 abbrev pub after_passes : Workload → (Workload → Stages → List Step) → Stages → ℕ → Stages
@@ -114,18 +114,34 @@ turns_of_passes load pass z zero = []
 turns_of_passes load pass z (suc n) = turns_of_passes load pass z n ++ pass load (after_passes load pass z n)
 
 -- These are the turns of a loop that makes pass after pass from z on while something is so.
-pub record IsLoop (load : Workload) (goes_on : Stages → Bool) (pass : Workload → Stages → List Step) (z : Stages) (passes : ℕ) (turns : List Step) : Type 0 where
-  pub turns : turns ≡ turns_of_passes load pass z passes
+pub record IsLoop (load : Workload) (goes_on : Stages → Bool) (pass : Workload → Stages → List Step) (z : Stages) (passes : ℕ) (steps : List Step) : Type 0 where
+  pub turns : steps ≡ turns_of_passes load pass z passes
   pub before : (n : ℕ) → n < passes → goes_on (after_passes load pass z n) ≡ true
   pub ends : goes_on (after_passes load pass z passes) ≡ false
 
+-- The same of a loop that is given up after so many passes.
+pub record IsLoopUpTo (most : ℕ) (load : Workload) (goes_on : Stages → Bool) (pass : Workload → Stages → List Step) (z : Stages) (passes : ℕ) (steps : List Step) : Type 0 where
+  pub turns : steps ≡ turns_of_passes load pass z passes
+  pub before : (n : ℕ) → n < passes → goes_on (after_passes load pass z n) ≡ true
+  pub ends : (goes_on (after_passes load pass z passes) ≡ false) ⊎ (passes ≡ most)
+
 -- The turns of settling, from stages z on: rounds until every command is answered, rounds and exchanges until every log has every
 -- record, and a last round of each datacentre.
-pub record IsSettling (load : Workload) (z : Stages) (turns : List Step) : Type 0 where
+pub record IsSettling (load : Workload) (z : Stages) (steps : List Step) : Type 0 where
   pub answering : List Step
   pub answers : ℕ
   pub first : IsLoop load is_answering answering_rounds z answers answering
   pub telling : List Step
   pub tells : ℕ
   pub second : IsLoop load is_unfinished telling_rounds (after_steps load z answering) tells telling
-  pub turns : turns ≡ answering ++ telling ++ all_rounds (after_steps load z (answering ++ telling))
+  pub turns : steps ≡ answering ++ telling ++ all_rounds (after_steps load z (answering ++ telling))
+
+-- The same, with each loop given up after so many passes.
+pub record IsSettlingUpTo (most : ℕ) (load : Workload) (z : Stages) (steps : List Step) : Type 0 where
+  pub answering : List Step
+  pub answers : ℕ
+  pub first : IsLoopUpTo most load is_answering answering_rounds z answers answering
+  pub telling : List Step
+  pub tells : ℕ
+  pub second : IsLoopUpTo most load is_unfinished telling_rounds (after_steps load z answering) tells telling
+  pub turns : steps ≡ answering ++ telling ++ all_rounds (after_steps load z (answering ++ telling))

@@ -5,5 +5,8 @@ pub mod OpeningLemmas
 pub mod SiteLemmas
 pub mod TakingLemmas
 pub mod MovingLemmas
+pub mod RoundLemmas
+pub mod KnownLemmas
+pub mod SettledLemmas
 pub mod SettlingLemmas
 pub mod ReplayLemmas

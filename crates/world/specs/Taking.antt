@@ -1,5 +1,5 @@
 -- The turns that all stages have taken since a script opened them.
-use Rattle.std.specs.Prelude.{◌≡◌, Bool, false, List, [], ◌∷◌, ◌++◌, map, All}
+use Rattle.std.specs.Prelude.{◌≡◌, ◌⊎◌, Bool, true, false, List, [], ◌∷◌, ◌++◌, map, All}
 use Rattle.abstract_log.specs.declared.command.Workload.{Workload}
 use Rattle.abstract_log.specs.declared.event.Event.{Event}
 use Rattle.abstract_log.specs.declared.script.Script.{Script}
@@ -23,11 +23,32 @@ pub record Taken : Type 0 where
 abbrev pub steps_of : List Taken → List Step
 steps_of ts = map (λ t. t.step) ts
 
--- the stage lines of turns from stages z on
-abbrev pub lines_of : Workload → Stages → List Taken → List StageLine
-lines_of load z [] = []
-lines_of load z (t ∷ ts) =
-    record { step = t.step; outcome = (step_of load z t.step).outcome; settling = t.settling } ∷ lines_of load (step_of load z t.step).after ts
+-- the turns of a script's own steps, and of settling
+abbrev pub taken_of : List Step → List Taken
+taken_of steps = map (λ s. record { step = s; settling = false }) steps
+
+abbrev pub settled : List Step → List Taken
+settled steps = map (λ s. record { step = s; settling = true }) steps
+
+-- the stage line of a turn from stages z on
+abbrev pub line_of : Workload → Stages → Taken → StageLine
+line_of load z t = record { step = t.step; outcome = (step_of load z t.step).outcome; settling = t.settling }
+
+-- These lines are a line before these others, or the others alone: that of a turn of settling is left out exactly where the turn is idle.
+abbrev pub IsBefore : Type 0 → StageLine → List StageLine → List StageLine → Type 0
+IsBefore idle line more lines =
+    ((lines ≡ line ∷ more) × (line.settling ≡ true → idle → ⊥))
+    ⊎ ((lines ≡ more) × (line.settling ≡ true) × idle)
+
+-- The stage lines of turns from stages z on: one for each turn, but for those of settling that are idle.
+abbrev pub AreLines : (Workload → Stages → Step → Type 0) → Workload → Stages → List Taken → List StageLine → Type 0
+AreLines idle load z [] lines = lines ≡ []
+AreLines idle load z (t ∷ ts) lines =
+    (more : List StageLine) × IsBefore (idle load z t.step) (line_of load z t) more lines × AreLines idle load (step_of load z t.step).after ts more
+
+-- No turn counts as idle so far.
+abbrev pub IsIdle : Workload → Stages → Step → Type 0
+IsIdle load z step = ⊥
 
 -- the stages after turns, and their events
 abbrev pub stages_after : Script → List Taken → Stages
@@ -53,7 +74,7 @@ pub record HasTaken (script : Script) (ts : List Taken) (s : StagesState) : Type
   pub workload : s.workload ≡ script.workload
   pub shown : Shows script.workload.dcs (stages_after script ts) s.sites
   pub events : s.events ≡ events_after script ts
-  pub lines : s.lines ≡ lines_of script.workload (opening script) ts
+  pub lines : AreLines IsIdle script.workload (opening script) ts s.lines
 
 -- These are stages that some script opens, after some turns.
 pub record IsTaken (s : StagesState) : Type 0 where
@@ -66,10 +87,6 @@ pub record IsTaken (s : StagesState) : Type 0 where
 pub record IsPlayed (script : Script) (ts : List Taken) (played : Played) : Type 0 where
   pub workload : played.run.workload ≡ script.workload
   pub events : played.run.events ≡ events_after script ts
-  pub lines : played.stages ≡ lines_of script.workload (opening script) ts
+  pub lines : AreLines IsIdle script.workload (opening script) ts played.stages
   pub is_run : IsRun script.workload played.run.events
   pub stands : StandsFor (world_of script.workload played.run.events) (stages_after script ts)
-
--- More turns were taken.
-abbrev pub HasGoneOn : StagesState → StagesState → Type 0
-HasGoneOn old new = (script : Script) (ts : List Taken) → HasTaken script ts old → (more : List Taken) × HasTaken script (ts ++ more) new

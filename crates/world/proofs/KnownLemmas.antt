@@ -1,0 +1,106 @@
+-- What is asked of datacentres whose stages are known.
+use Rattle.std.proofs.Common.{◌≡◌, ℕ, ◌+◌, ◌<◌, ◌≤◌, ◌&&◌, ◌||◌, Bool, true, false, List, length, take, get_or, ap, ap₂, sym, ◌∙◌, subst, arith, Some}
+use Rattle.std.specs.List.{list_all, list_any}
+use Rattle.std.proofs.lemmas.List.Folds.{list_all_at, list_all_more, list_any_at, list_any_more}
+use Rattle.std.specs.Option.{ForSome}
+use Rattle.abstract_log.specs.declared.script.Script.{Script}
+use Rattle.abstract_log.specs.Fits.{FitsLimits}
+use Rattle.abstract_log.specs.Runs.{world_of}
+use Rattle.log_laws.proofs.LimitedRuns.{laws_of_run}
+use Rattle.stage_world.specs.Stages.{Datacentre, Stages}
+use Rattle.stage_world.specs.Whole.{datacentre_at, nowhere_at}
+use Rattle.stage_world.specs.MoreTurns.{same_counts}
+use Rattle.stage_world.specs.Settling.{has_unanswered}
+use Rattle.datacentre.specs.Seen.{DatacentreState, StandsForALog, is_unanswered}
+use Rattle.world.specs.Settled.{AreKnown, IsKnown}
+use Rattle.world.specs.Showing.{states_from}
+use Rattle.world.specs.Taking.{HasTaken, IsTaken, StagesState, Taken, stages_after}
+use Rattle.world.proofs.SiteLemmas.{length-states, states_at}
+use Rattle.world.proofs.TakingLemmas.{run_of}
+use Rattle.world.proofs.RoundLemmas.{take_all}
+
+-- what is said of its stages, if there are some, is true of them
+pub told : (P : Datacentre → Type 0) (d : ℕ) (z : Datacentre) (x : DatacentreState) → IsKnown d z x → ForSome x.stages P → P z
+told P d z x known is = is z (ap (λ (s : DatacentreState). s.stages) known.is)
+
+-- so it may be asked
+pub asks : (d : ℕ) (z : Datacentre) (x : DatacentreState) → IsKnown d z x → ForSome x.stages (StandsForALog x.dc)
+asks d z x known =
+    let P : DatacentreState → Type 0 = λ s. ForSome s.stages (StandsForALog s.dc) in
+    subst P (sym known.is) (λ y is. subst (StandsForALog d) (same z y is) known.log)
+  where
+    same : (a b : Datacentre) → Some a ≡ Some b → a ≡ b
+    same a b is = cc
+
+module _ (z : Stages) (xs : List DatacentreState) (known : AreKnown z xs) where
+  -- how many there are
+  pub count_known : length xs ≡ length z.datacentres
+  count_known = ap length known.shown ∙ length-states 0 z.datacentres
+
+  -- each is known
+  pub known_at : (d : ℕ) (x : DatacentreState) → d < length xs → x ≡ get_or xs d x → IsKnown d (datacentre_at z d) x
+  known_at d x within here =
+      let inside : d < length z.datacentres = omega (arith, within, count_known) in
+      let there : d ≡ 0 + d = omega arith in
+      record {
+        is = here ∙ ap (λ ys. get_or ys d x) known.shown ∙ states_at 0 z.datacentres d x inside ∙ ap (λ k. record { dc = k; stages = Some (datacentre_at z d) }) (sym there);
+        log = record { world = known.world; lawful = known.lawful; stands = known.stands.each d (omega (arith, inside, known.stands.size)) };
+      }
+
+pub known_of : (script : Script) (ts : List Taken) (s : StagesState) → HasTaken script ts s → AreKnown (stages_after script ts) s.sites.datacentres
+known_of script ts s h =
+    let run = run_of script ts s h in
+    record {
+      world = world_of s.workload s.events;
+      lawful = laws_of_run s.workload s.events (subst FitsLimits (sym h.workload) h.fits.limits) run.0;
+      stands = run.1;
+      shown = h.shown.datacentres;
+      few = omega (arith, h.shown.count, h.fits.limits.workload.few);
+    }
+
+pub known_some : (s : StagesState) → IsTaken s → (z : Stages) × AreKnown z s.sites.datacentres
+known_some s h = (stages_after h.script h.turns, known_of h.script h.turns s h.taken)
+
+-- Tests of each of them, one after another: what is known of the first so many, and of all
+
+module _ (p : Datacentre → Bool) (z : Stages) (xs items : List DatacentreState) (known : AreKnown z xs) (same : items ≡ xs) where
+  abbrev zs : List Datacentre
+  zs = z.datacentres
+
+  inside : (i : ℕ) → i < length items → i < length zs
+  inside i within = omega (arith, within, ap length same, count_known z xs known)
+
+  whole : (i : ℕ) → length items ≤ i → take i zs ≡ zs
+  whole i past = take_all zs i (omega (arith, past, ap length same, count_known z xs known))
+
+  pub any_next : (i : ℕ) (b : Bool) → i < length items → b ≡ p (datacentre_at z i) → b ≡ false → list_any p (take i zs) ≡ false → list_any p (take (i + 1) zs) ≡ false
+  any_next i b within is fails before = list_any_more p zs i nowhere_at (inside i within) ∙ ap₂ (λ x y. x || y) before (sym is ∙ fails)
+
+  pub any_here : (i : ℕ) (b : Bool) → i < length items → b ≡ p (datacentre_at z i) → b ≡ true → true ≡ list_any p zs
+  any_here i b within is passes = sym (list_any_at p zs i nowhere_at (inside i within) (sym is ∙ passes))
+
+  pub any_none : (i : ℕ) → length items ≤ i → list_any p (take i zs) ≡ false → false ≡ list_any p zs
+  any_none i past none = sym (ap (list_any p) (sym (whole i past)) ∙ none)
+
+  pub all_next : (i : ℕ) (b : Bool) → i < length items → b ≡ p (datacentre_at z i) → b ≡ true → list_all p (take i zs) ≡ true → list_all p (take (i + 1) zs) ≡ true
+  all_next i b within is passes before = list_all_more p zs i nowhere_at (inside i within) ∙ ap₂ (λ x y. x && y) before (sym is ∙ passes)
+
+  pub all_fail : (i : ℕ) (b : Bool) → i < length items → b ≡ p (datacentre_at z i) → b ≡ false → false ≡ list_all p zs
+  all_fail i b within is fails = sym (list_all_at p zs i nowhere_at (inside i within) (sym is ∙ fails))
+
+  pub all_pass : (i : ℕ) → length items ≤ i → list_all p (take i zs) ≡ true → true ≡ list_all p zs
+  all_pass i past all = sym (ap (list_all p) (sym (whole i past)) ∙ all)
+
+-- what the one that the loop is at answers
+module _ (z : Stages) (xs items : List DatacentreState) (known : AreKnown z xs) (same : items ≡ xs) (i : ℕ) (x : DatacentreState) (within : i < length items) (here : x ≡ get_or items i x) where
+  item_is : IsKnown i (datacentre_at z i) x
+  item_is = known_at z xs known i x (omega (arith, within, ap length same)) (here ∙ ap (λ ys. get_or ys i x) same)
+
+  pub unanswered_at : (b : Bool) → ForSome x.stages (λ y. b ≡ list_any is_unanswered y.sessions) → b ≡ has_unanswered (datacentre_at z i)
+  unanswered_at b f = told (λ y. b ≡ has_unanswered y) i (datacentre_at z i) x item_is f
+
+  pub counts_at : (counts : List ℕ) → ForSome x.stages (λ y. counts ≡ y.token.counts) → counts ≡ (datacentre_at z i).token.counts
+  counts_at counts f = told (λ y. counts ≡ y.token.counts) i (datacentre_at z i) x item_is f
+
+  pub same_at : (counts : List ℕ) (b : Bool) → ForSome x.stages (λ y. b ≡ same_counts counts y.token.counts) → b ≡ same_counts counts (datacentre_at z i).token.counts
+  same_at counts b f = told (λ y. b ≡ same_counts counts y.token.counts) i (datacentre_at z i) x item_is f
