@@ -7,6 +7,7 @@ pub mod TakingLemmas
 pub mod MovingLemmas
 pub mod RoundLemmas
 pub mod KnownLemmas
-pub mod SettledLemmas
+pub mod RoundIs
 pub mod SettlingLemmas
+pub mod SettledLemmas
 pub mod ReplayLemmas

@@ -66,11 +66,11 @@ own_steps : (steps : List Step) → steps_of (taken_of steps) ≡ steps
 own_steps [] = refl
 own_steps (x ∷ steps) = ap (λ xs. x ∷ xs) (own_steps steps)
 
-pub replayed : (script : Script) (s : StagesState) (result : Played) → (settles : HasPlayed (IsSettlingUpTo 65536) script (taken_of script.steps) s)
+pub replayed : (script : Script) (s : StagesState) (result : Played) → (settles : HasPlayed (IsSettlingUpTo 524288) script (taken_of script.steps) s)
     → IsFinished (world_of script.workload (events_after script (taken_of script.steps ++ settled_steps settles.steps))) → IsPlayed script (taken_of script.steps ++ settled_steps settles.steps) result → IsReplayed script result
 replayed script s result settles finished is = record {
   settling = settles.steps;
-  settles = subst (λ xs. IsSettlingUpTo 65536 script.workload (after_steps script.workload (opening script) xs) settles.steps) (own_steps script.steps) settles.are;
+  settles = subst (λ xs. IsSettlingUpTo 524288 script.workload (after_steps script.workload (opening script) xs) settles.steps) (own_steps script.steps) settles.are;
   workload = is.workload;
   events = is.events;
   lines = is.lines;

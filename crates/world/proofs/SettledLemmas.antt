@@ -1,15 +1,23 @@
 -- Turns of settling one after another.
-use Rattle.std.proofs.Common.{◌≡◌, inl, inr, ℕ, zero, suc, ◌+◌, ◌<◌, ◌≤◌, Bool, true, false, List, [], ◌∷◌, ◌++◌, length, take, map, get_or, refl, ap, sym, ◌∙◌, subst, arith, add-one, append_assoc, below_more}
+use Rattle.std.proofs.Common.{◌≡◌, inl, inr, ℕ, zero, suc, ◌+◌, ◌<◌, ◌≤◌, Bool, true, false, List, [], ◌∷◌, ◌++◌, length, take, map, get_or, refl, ap, ap₂, sym, ◌∙◌, subst, arith, add-one, append_assoc, below_more}
+use Rattle.std.specs.List.{All}
+use Rattle.std.proofs.lemmas.Bool.{cond-true, cond-false}
 use Rattle.std.proofs.lemmas.List.{append-nil, map-append}
+use Rattle.std.proofs.lemmas.List.Elements.{All-get_or}
 use Rattle.std.proofs.Math.Seq.{take-suc}
 use Rattle.abstract_log.specs.declared.command.Workload.{Workload}
 use Rattle.abstract_log.specs.declared.script.Script.{Script}
 use Rattle.abstract_log.specs.declared.script.Step.{Step}
 use Rattle.stage_world.specs.Stages.{Stages}
 use Rattle.stage_world.specs.Opening.{opening}
-use Rattle.stage_world.specs.Schedules.{after_steps, step_of}
-use Rattle.stage_world.specs.Settling.{Errand, IsSettlingUpTo, after_passes, all_rounds, answering_rounds, errand_turns, exchange, exchange_turns, is_answering, is_unfinished, telling_rounds, turns_of_passes}
-use Rattle.world.specs.Settled.{HasLooped, Plays}
+use Rattle.abstract_log.specs.declared.script.Step.TheVariants.{Deliver, Send}
+use Rattle.stage_world.specs.LinkTurns.{link_length}
+use Rattle.stage_world.specs.Schedules.{AreTwo, IsStep, after_steps, step_of}
+use Rattle.stage_world.specs.Settling.{Errand, IsSettlingUpTo, after_passes, all_rounds, answering_rounds, errand_turns, errands, exchange, exchange_turns, is_answering, is_due, is_unfinished, sent_and_delivered, telling_rounds, turns_of_passes}
+use Rattle.world.specs.Settled.{HasLooped, MayBePlayed, Plays}
+use Rattle.world.specs.Showing.{IsBuiltStep}
+use Rattle.world.proofs.RoundLemmas.{take_all}
+use Rattle.world.proofs.SettlingLemmas.{errands_two}
 use Rattle.world.specs.Taking.{HasTaken, IsTaken, StagesState, Taken, settled, stages_after, steps_of}
 
 pub after_append : (load : Workload) (z : Stages) (xs ys : List Step) → after_steps load z (xs ++ ys) ≡ after_steps load (after_steps load z xs) ys
@@ -162,14 +170,14 @@ plays_telling a b c =
 -- both loops, and the last rounds
 record AreLoops (load : Workload) (z : Stages) (xs : List Step) : Type 0 where
   answering : List Step
-  first : HasLooped 65536 is_answering answering_rounds load z answering
+  first : HasLooped 524288 is_answering answering_rounds load z answering
   telling : List Step
-  second : HasLooped 65536 is_unfinished telling_rounds load (after_steps load z answering) telling
+  second : HasLooped 524288 is_unfinished telling_rounds load (after_steps load z answering) telling
   are : xs ≡ answering ++ telling
 
-pub plays_settling : (a b c d : StagesState) → Plays (HasLooped 65536 is_answering answering_rounds) a b → Plays (HasLooped 65536 is_unfinished telling_rounds) b c → Plays (λ load z xs. xs ≡ all_rounds z) c d → Plays (IsSettlingUpTo 65536) a d
+pub plays_settling : (a b c d : StagesState) → Plays (HasLooped 524288 is_answering answering_rounds) a b → Plays (HasLooped 524288 is_unfinished telling_rounds) b c → Plays (λ load z xs. xs ≡ all_rounds z) c d → Plays (IsSettlingUpTo 524288) a d
 plays_settling a b c d first second last =
-    plays_then AreLoops (λ load z xs. xs ≡ all_rounds z) (IsSettlingUpTo 65536) a c d
+    plays_then AreLoops (λ load z xs. xs ≡ all_rounds z) (IsSettlingUpTo 524288) a c d
     (λ load z xs ys loops rounds. record {
         answering = loops.answering;
         answers = loops.first.passes;
@@ -179,6 +187,76 @@ plays_settling a b c d first second last =
         second = loops.second.loop;
         turns = ap (λ us. us ++ ys) loops.are ∙ ap (λ us. loops.answering ++ loops.telling ++ us) (rounds ∙ ap (λ us. all_rounds (after_steps load z us)) loops.are);
       })
-    (plays_then (HasLooped 65536 is_answering answering_rounds) (HasLooped 65536 is_unfinished telling_rounds) AreLoops a b c
+    (plays_then (HasLooped 524288 is_answering answering_rounds) (HasLooped 524288 is_unfinished telling_rounds) AreLoops a b c
       (λ load z xs ys one two. record { answering = xs; first = one; telling = ys; second = two; are = refl }) first second)
     last
+
+-- the turn that comes next may be taken
+pub item_may : (P : Such) (items : List Step) (i : ℕ) (x : Step) (a b : StagesState) → Plays P a b → IsTaken a → MayBePlayed a.workload items → i < length items → x ≡ get_or items i x → IsStep b.workload x × IsBuiltStep x
+item_may P items i x a b plays taken may within here = (
+  subst (λ l. IsStep l x) (sym (workload_kept P a b plays taken)) (subst (IsStep a.workload) (sym here) (All-get_or (IsStep a.workload) items i x within may.0)),
+  subst IsBuiltStep (sym here) (All-get_or IsBuiltStep items i x within may.1),
+)
+
+-- all were taken
+pub plays_all : (items : List Step) (i : ℕ) (a b : StagesState) → length items ≤ i → Plays (AreThese (take i items)) a b → Plays (AreThese items) a b
+plays_all items i a b past = plays_as (AreThese (take i items)) (AreThese items) a b (λ load z xs is. is ∙ take_all items i past)
+
+-- turns that the stages before them decide
+pub plays_these : (steps : List Step) (F : Stages → List Step) (a b : StagesState) → ((script : Script) (ts : List Taken) → HasTaken script ts a → steps ≡ F (stages_after script ts)) → Plays (AreThese steps) a b → Plays (λ load z xs. xs ≡ F z) a b
+plays_these steps F a b are plays script ts h =
+    let one = plays script ts h in record { steps = one.steps; are = one.are ∙ are script ts h; taken = one.taken }
+
+-- all errands were done
+pub errands_all : (items : List Errand) (i : ℕ) (a b : StagesState) → length items ≤ i → ((script : Script) (ts : List Taken) → HasTaken script ts a → items ≡ errands (stages_after script ts)) → Plays (AreErrands (take i items)) a b → Plays (λ load z xs. xs ≡ exchange_turns load z) a b
+errands_all items i a b past are plays script ts h =
+    let one = plays script ts h in
+    record {
+      steps = one.steps;
+      are = one.are ∙ ap (exchange script.workload (stages_after script ts)) (take_all items i past ∙ are script ts h);
+      taken = one.taken;
+    }
+
+-- what is to be done next is between two
+pub errand_two : (items : List Errand) (i : ℕ) (x : Errand) (a b : StagesState) → Plays (AreErrands (take i items)) a b → IsTaken a → ((script : Script) (ts : List Taken) → HasTaken script ts a → items ≡ errands (stages_after script ts)) → i < length items → x ≡ get_or items i x
+    → AreTwo b.workload.dcs x.from x.to
+errand_two items i x a b plays taken are within here =
+    let z : Stages = stages_after taken.script taken.turns in
+    let P : ℕ → Errand → Type 0 = λ n y. AreTwo n y.from y.to in
+    let dcs : length z.datacentres ≡ b.workload.dcs = taken.taken.shown.count ∙ ap (λ (l : Workload). l.dcs) (sym taken.taken.workload ∙ sym (workload_kept (AreErrands (take i items)) a b plays taken)) in
+    let all : All (P (length z.datacentres)) items = subst (All (P (length z.datacentres))) (sym (are taken.script taken.turns taken.taken)) (errands_two z) in
+    subst (λ n. P n x) dcs (subst (P (length z.datacentres)) (sym here) (All-get_or (P (length z.datacentres)) items i x within all))
+
+-- An errand
+
+pub errand_not_due : (e : Errand) (s : StagesState) → ((script : Script) (ts : List Taken) → HasTaken script ts s → is_due (stages_after script ts) e ≡ false) → Plays (λ load z xs. xs ≡ errand_turns load z e) s s
+errand_not_due e s not_due script ts h =
+    let z : Stages = stages_after script ts in
+    record {
+      steps = [];
+      are = sym (cond-false (is_due z e) (sent_and_delivered script.workload z e) [] (not_due script ts h));
+      taken = (plays_none s script ts h).taken;
+    }
+
+pub errand_due : (e : Errand) (a b : StagesState) → ((script : Script) (ts : List Taken) → HasTaken script ts a → is_due (stages_after script ts) e ≡ true) → Plays (λ load z xs. xs ≡ sent_and_delivered load z e) a b → Plays (λ load z xs. xs ≡ errand_turns load z e) a b
+errand_due e a b due plays script ts h =
+    let z : Stages = stages_after script ts in
+    let one = plays script ts h in
+    record {
+      steps = one.steps;
+      are = one.are ∙ sym (cond-true (is_due z e) (sent_and_delivered script.workload z e) [] (due script ts h));
+      taken = one.taken;
+    }
+
+-- a message is sent, and the packet that is then the newest delivered
+pub sends_and_delivers : (e : Errand) (n : ℕ) (a b c : StagesState) → Plays (λ load z xs. xs ≡ Send e.from e.sender e.to ∷ []) a b
+    → ((script : Script) (ts : List Taken) → HasTaken script ts b → n ≡ link_length (stages_after script ts) e.from e.to)
+    → Plays (λ load z xs. xs ≡ Deliver e.from e.to n 0 ∷ []) b c → Plays (λ load z xs. xs ≡ sent_and_delivered load z e) a c
+sends_and_delivers e n a b c sent newest delivered =
+    let send : Step = Send e.from e.sender e.to in
+    plays_then (λ load z xs. (xs ≡ send ∷ []) × (n ≡ link_length (after_steps load z xs) e.from e.to)) (λ load z xs. xs ≡ Deliver e.from e.to n 0 ∷ []) (λ load z xs. xs ≡ sent_and_delivered load z e) a b c
+    (λ load z xs ys first second.
+        let count : n ≡ link_length (step_of load z send).after e.from e.to = first.1 ∙ ap (λ us. link_length (after_steps load z us) e.from e.to) first.0 in
+        ap₂ (λ us vs. us ++ vs) first.0 (second ∙ ap (λ k. Deliver e.from e.to k 0 ∷ []) count))
+    (plays_knowing (λ load z xs. xs ≡ send ∷ []) (λ z. n ≡ link_length z e.from e.to) a b sent newest)
+    delivered

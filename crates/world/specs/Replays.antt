@@ -17,7 +17,7 @@ turns_of script settling = taken_of script.steps ++ settled settling
 -- there on, marked as such; the lines are those of all turns but the idle ones of settling. The run is finished.
 pub record IsReplayed (script : Script) (played : Played) : Type 0 where
   pub settling : List Step
-  pub settles : IsSettlingUpTo 65536 script.workload (after_steps script.workload (opening script) script.steps) settling
+  pub settles : IsSettlingUpTo 524288 script.workload (after_steps script.workload (opening script) script.steps) settling
   pub workload : played.run.workload ≡ script.workload
   pub events : played.run.events ≡ events_after script (turns_of script settling)
   pub lines : AreLines IsIdle script.workload (opening script) (turns_of script settling) played.stages

@@ -1,5 +1,5 @@
 //! What settling asks of the datacentres before it takes turns.
-ghost use Rattle.std.specs.Prelude.{◌≡◌, ◌≢◌, ◌<◌, length, filter, nat_lt, IfOk};
+ghost use Rattle.std.specs.Prelude.{◌≡◌, ◌<◌, ◌≤◌, length, filter, nat_lt, IfOk};
 ghost use Rattle.std.specs.List.{All, list_all};
 ghost use Rattle.std.specs.Option.{ForSome};
 ghost use Rattle.stage_world.specs.MoreTurns.{message_of, same_counts};

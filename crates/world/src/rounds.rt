@@ -5,7 +5,7 @@ ghost use Rattle.stage_world.specs.Settling.{below, clients, flushes, gossips, l
 ghost use Rattle.std.specs.Prelude.{flat_map, map, List};
 ghost use Rattle.abstract_log.specs.declared.script.Step.TheVariants.{Client, Flush, Gossip, Pass, Place, Stamp, Token};
 ghost use Rattle.stage_world.specs.Opening.{numbered};
-ghost use Rattle.world.specs.Settled.{IsThere, ring_from};
+ghost use Rattle.world.specs.Settled.{IsKnown, ring_from};
 
 use abstract_log::Step;
 use cz_base::{DcId, NoMemory, Seq};
@@ -17,8 +17,8 @@ pub(crate) fn add_round(
     d: DcId,
     datacentre: &Datacentre,
 ) -> Result<(), NoMemory>
-    requires { (z : StagesAt) × IsThere d z datacentre.now }
-    ensures { (z : StagesAt) → IsThere d z datacentre.now → OnOk result (steps.new ≡ steps.old ++ local_round d z) }
+    requires { (z : StagesAt) × IsKnown d z datacentre.now }
+    ensures { (z : StagesAt) → IsKnown d z datacentre.now → OnOk result (steps.new ≡ steps.old ++ local_round d z) }
 {
     let members = datacentre.members();
     let holder = datacentre.holder();

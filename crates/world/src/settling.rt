@@ -14,13 +14,13 @@ use abstract_log::Step;
 use cz_base::{DcId, NoMemory};
 
 // The most passes of each loop.
-const PASSES: u32 = 65536;
+const PASSES: u32 = 524288;
 
 impl Stages {
-    /// Takes the turns of settling. Nothing proves yet that its loops end, so each is given up after 65,536 passes.
+    /// Takes the turns of settling. Nothing proves yet that its loops end, so each is given up after 524,288 passes.
     pub(crate) fn settle(&mut self) -> Result<(), NoMemory>
         requires { IsTaken self.old }
-        ensures { OnOk result (Plays (IsSettlingUpTo 65536) self.old self.new) }
+        ensures { OnOk result (Plays (IsSettlingUpTo 524288) self.old self.new) }
     {
         self.play_until_answered()?;
         self.play_until_told()?;
@@ -30,7 +30,7 @@ impl Stages {
     // Local rounds where a command is not answered, until all are.
     fn play_until_answered(&mut self) -> Result<(), NoMemory>
         requires { IsTaken self.old }
-        ensures { OnOk result (Plays (HasLooped 65536 is_answering answering_rounds) self.old self.new) }
+        ensures { OnOk result (Plays (HasLooped 524288 is_answering answering_rounds) self.old self.new) }
     {
         for _pass in 0..PASSES {
             if !is_answering(&self.sites.datacentres) {
@@ -44,7 +44,7 @@ impl Stages {
     // Local rounds and exchanges until all is answered and told.
     fn play_until_told(&mut self) -> Result<(), NoMemory>
         requires { IsTaken self.old }
-        ensures { OnOk result (Plays (HasLooped 65536 is_unfinished telling_rounds) self.old self.new) }
+        ensures { OnOk result (Plays (HasLooped 524288 is_unfinished telling_rounds) self.old self.new) }
     {
         for _pass in 0..PASSES {
             if !is_unfinished(&self.sites.datacentres) {
