@@ -19,10 +19,10 @@ use Rattle.stage_world.specs.Turns.{Turned}
 use Rattle.stage_world.specs.MoreTurns.{message_of, receive_turn}
 use Rattle.stage_world.specs.Schedules.{turn_of}
 use Rattle.datacentre.specs.declared.parts.Parts.{Parts}
-use Rattle.datacentre.specs.declared.done.TurnDone.{TurnDone}
-use Rattle.datacentre.specs.Lent.{token_seen}
+use Rattle.stage_turns.specs.declared.done.TurnDone.{TurnDone}
+use Rattle.stage_turns.specs.Lent.{token_seen}
 use Rattle.datacentre.specs.Seen.{DatacentreState, IsWhole, StandsForALog, indexers_from, seen, state_of}
-use Rattle.datacentre.specs.Told.{told_by}
+use Rattle.stage_turns.specs.Told.{told_by}
 use Rattle.datacentre.specs.Turning.{IsPacketOf, IsTurned, MayTurn, Sends, TakesTurn}
 use Rattle.datacentre.proofs.WholeLinks.{told_all}
 

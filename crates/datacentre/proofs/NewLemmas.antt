@@ -9,7 +9,7 @@ use Rattle.stage_world.specs.Stages.{Indexer, no_queue, queue_at}
 use Rattle.stage_world.specs.MoreTurns.{new_queue}
 use Rattle.stage_world.specs.Opening.{numbered}
 use Rattle.stage_world.proofs.OpeningLemmas.{length-numbered, get_or-numbered}
-use Rattle.datacentre.specs.Lent.{queues_seen, HaveToken}
+use Rattle.stage_turns.specs.Lent.{queues_seen, HaveToken}
 use Rattle.datacentre.specs.Seen.{indexers_from}
 
 -- what g leaves as it is

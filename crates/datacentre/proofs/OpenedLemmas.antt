@@ -18,10 +18,10 @@ use Rattle.stage_world.specs.MoreTurns.{new_queue}
 use Rattle.stage_world.specs.Opening.{first_epochs, numbered, opening_at, sessions_from}
 use Rattle.stage_world.proofs.OpeningLemmas.{All-numbered, length-numbered}
 use Rattle.datacentre.specs.declared.parts.Parts.{Parts}
-use Rattle.datacentre.specs.Lent.{HaveToken, queues_seen}
+use Rattle.stage_turns.specs.Lent.{HaveToken, queues_seen}
 use Rattle.datacentre.specs.Seen.{IsWhole, first_token, indexers_from, seen}
 use Rattle.datacentre.proofs.NewLemmas.{indexers_new, map-numbered}
-use Rattle.datacentre.proofs.RingLemmas.{token_is}
+use Rattle.stage_turns.proofs.RingLemmas.{token_is}
 
 -- The parts are new, with these epochs and this map.
 pub record AreNew (sizes : Sizes) (load : Workload) (d : ℕ) (e : EpochList) (shares : List (List Share)) (p : Parts) : Type 0 where

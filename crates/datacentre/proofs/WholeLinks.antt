@@ -27,16 +27,16 @@ use Rattle.stage_world.specs.Turns.{quiet, where_there}
 use Rattle.stage_world.specs.ClientTurns.{client_of, client_turn}
 use Rattle.stage_world.specs.MoreTurns.{message_of, names_of, receive_turn, received_outcome}
 use Rattle.datacentre.specs.declared.parts.Parts.{Parts}
-use Rattle.datacentre.specs.declared.done.TurnDone.{TurnDone}
-use Rattle.datacentre.specs.Clients.{MayRead, MayWrite, batchers_written, begin_events, next_command, position_in, read_by, read_outcome, reply_events, session_read, session_written, top_in, write_events, write_outcome, writes}
-use Rattle.datacentre.specs.Lent.{maintainers_seen}
+use Rattle.stage_turns.specs.declared.done.TurnDone.{TurnDone}
+use Rattle.stage_turns.specs.Clients.{MayRead, MayWrite, batchers_written, begin_events, next_command, position_in, read_by, read_outcome, reply_events, session_read, session_written, top_in, write_events, write_outcome, writes}
+use Rattle.stage_turns.specs.Lent.{maintainers_seen}
 use Rattle.datacentre.specs.Seen.{StandsForALog, seen}
-use Rattle.datacentre.specs.Told.{MayLook, MayTell, told_by}
+use Rattle.stage_turns.specs.Told.{MayLook, MayTell, told_by}
 use Rattle.datacentre.specs.Turning.{IsBuiltCommand, IsPacketOf, IsTurned, MayTurn, send_told}
-use Rattle.datacentre.proofs.AckLemmas.{position_none, position_some}
-use Rattle.datacentre.proofs.ClientIs.{read_is_turn, write_is_turn}
-use Rattle.datacentre.proofs.ClientMay.{may_read, may_write}
-use Rattle.datacentre.proofs.ToldLemmas.{AreLent, may_look, may_tell, told_is, whole_is_lent}
+use Rattle.stage_turns.proofs.AckLemmas.{position_none, position_some}
+use Rattle.stage_turns.proofs.ClientIs.{read_is_turn, write_is_turn}
+use Rattle.stage_turns.proofs.ClientMay.{may_read, may_write}
+use Rattle.stage_turns.proofs.ToldLemmas.{AreLent, may_look, may_tell, told_is, whole_is_lent}
 
 abbrev has_number : ℕ → Session → Bool
 has_number s x = eqb x.number s

@@ -18,22 +18,22 @@ use Rattle.stage_world.specs.Stages.{Datacentre, Session, no_epochs, no_maintain
 use Rattle.stage_world.specs.Turns.{Turned, where_there, unless_empty, taken_by, flush_items, flush_turn, gossip_turn, pass_turn, place_turn, stamp_turn, token_turn}
 use Rattle.stage_world.specs.MoreTurns.{learn_turn}
 use Rattle.datacentre.specs.declared.parts.Parts.{Parts}
-use Rattle.datacentre.specs.declared.done.TurnDone.{TurnDone}
-use Rattle.datacentre.specs.Flushing.{MayFlush}
-use Rattle.datacentre.specs.Learning.{MayLearn, learnable_by, row_events, row_learnt}
-use Rattle.datacentre.specs.Lent.{HaveToken, MayMoveToken, maintainers_seen, queues_seen, token_at_next, token_seen}
-use Rattle.datacentre.specs.Placing.{MayPlaceFrom, lid_of}
+use Rattle.stage_turns.specs.declared.done.TurnDone.{TurnDone}
+use Rattle.stage_turns.specs.Flushing.{MayFlush}
+use Rattle.stage_turns.specs.Learning.{MayLearn, learnable_by, row_events, row_learnt}
+use Rattle.stage_turns.specs.Lent.{HaveToken, MayMoveToken, maintainers_seen, queues_seen, token_at_next, token_seen}
+use Rattle.stage_turns.specs.Placing.{MayPlaceFrom, lid_of}
 use Rattle.datacentre.specs.Seen.{IsWhole, seen}
-use Rattle.datacentre.specs.Stamping.{MayStamp, events_stamped, outcome_stamped, queue_stamped, sessions_stamped}
-use Rattle.datacentre.specs.Telling.{MayGossip, own_vector, vectors_told}
+use Rattle.stage_turns.specs.Stamping.{MayStamp, events_stamped, outcome_stamped, queue_stamped, sessions_stamped}
+use Rattle.stage_turns.specs.Telling.{MayGossip, own_vector, vectors_told}
 use Rattle.datacentre.specs.Turning.{IsTurned, MayTurn}
-use Rattle.datacentre.proofs.FlushMay.{may_flush, pass_seen}
-use Rattle.datacentre.proofs.LearningLemmas.{learn_is_turn, may_learn}
-use Rattle.datacentre.proofs.PlacingLemmas.{may_place_from, place_is_turn}
-use Rattle.datacentre.proofs.RingLemmas.{token_is}
-use Rattle.datacentre.proofs.StampStands.{queue_may_stamp, queue_seen, token_may_move}
-use Rattle.datacentre.proofs.StampTurns.{stamp_is_turn}
-use Rattle.datacentre.proofs.TellingLemmas.{gossip_is_turn, may_gossip}
+use Rattle.stage_turns.proofs.FlushMay.{may_flush, pass_seen}
+use Rattle.stage_turns.proofs.LearningLemmas.{learn_is_turn, may_learn}
+use Rattle.stage_turns.proofs.PlacingLemmas.{may_place_from, place_is_turn}
+use Rattle.stage_turns.proofs.RingLemmas.{token_is}
+use Rattle.stage_turns.proofs.StampStands.{queue_may_stamp, queue_seen, token_may_move}
+use Rattle.stage_turns.proofs.StampTurns.{stamp_is_turn}
+use Rattle.stage_turns.proofs.TellingLemmas.{gossip_is_turn, may_gossip}
 
 -- four clauses of one result
 pub if_four : {T E : Type 0} (r : Result T E) (A B : Type 0) (P Q R : T → Type 0) → OnOk r A → OnOk r B → IfOk r P → IfOk r Q → ((x : T) → A → B → P x → Q x → R x) → IfOk r R

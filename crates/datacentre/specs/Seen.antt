@@ -1,14 +1,14 @@
 -- What contracts see of a datacentre.
-use Rattle.std.specs.Prelude.{◌≡◌, ℕ, ◌+◌, Bool, if◌then◌else◌, nat_lt, List, [], ◌∷◌, length, replicate, Option, Some, None, All}
+use Rattle.std.specs.Prelude.{◌≡◌, ℕ, ◌+◌, Bool, if◌then◌else◌, List, [], ◌∷◌, length, replicate, Option, Some, None, All}
 use Rattle.abstract_log.specs.declared.world.World.{World}
 use Rattle.flstore_rounds.specs.Epochs.{EpochList}
 use Rattle.flstore_rounds.specs.Heads.{Pair}
 use Rattle.token_queue.specs.Queues.{TokenState}
 use Rattle.log_laws.specs.Lawful.{IsLawful}
-use Rattle.stage_world.specs.Stages.{Datacentre, Indexer, Session}
+use Rattle.stage_world.specs.Stages.{Datacentre, Indexer}
 use Rattle.stage_world.specs.StandsFor.{StandsAt}
 use Rattle.datacentre.specs.declared.parts.Parts.{Parts}
-use Rattle.datacentre.specs.Lent.{HaveToken, maintainers_seen, queues_seen, token_seen}
+use Rattle.stage_turns.specs.Lent.{HaveToken, maintainers_seen, queues_seen, token_seen}
 
 -- its number, and its stages, unless memory was wanted once: then it has failed, and nothing is promised of them
 pub record DatacentreState : Type 0 where
@@ -59,7 +59,3 @@ pub record StandsForALog (d : ℕ) (z : Datacentre) : Type 0 where
 -- the token of a datacentre that has stamped nothing, at its first queue
 abbrev pub first_token : ℕ → ℕ → EpochList → ℕ → TokenState
 first_token d dcs epochs queues = record { dc = d; counts = replicate dcs 0; last = 0; deferred = []; epochs = epochs; at = 0; queues = queues }
-
--- a command of the session is not answered
-abbrev pub is_unanswered : Session → Bool
-is_unanswered x = nat_lt x.standing.answered (length x.commands)

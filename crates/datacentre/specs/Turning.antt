@@ -11,7 +11,7 @@ use Rattle.stage_world.specs.Turns.{Turned, quiet}
 use Rattle.stage_world.specs.MoreTurns.{message_of, names_of}
 use Rattle.stage_world.specs.Schedules.{turn_of}
 use Rattle.datacentre.specs.declared.parts.Parts.{Parts}
-use Rattle.datacentre.specs.declared.done.TurnDone.{TurnDone}
+use Rattle.stage_turns.specs.declared.done.TurnDone.{TurnDone}
 use Rattle.datacentre.specs.Seen.{DatacentreState, IsWhole, StandsForALog, seen}
 
 -- The parts stand for some log.

@@ -5,9 +5,10 @@ ghost use Rattle.abstract_log.specs.Fits.{FitsLimits, FitsSizes};
 ghost use Rattle.stage_world.specs.Opening.{opening_at};
 ghost use Rattle.stage_world.specs.Stages.{sizes_of};
 ghost use Rattle.stage_world.specs.Schedules.{turn_of};
-ghost use Rattle.datacentre.specs.Seen.{IsWhole, StandsForALog, is_unanswered, seen};
+ghost use Rattle.datacentre.specs.Seen.{IsWhole, StandsForALog, seen};
+ghost use Rattle.stage_turns.specs.Clients.{is_unanswered};
 ghost use Rattle.datacentre.specs.Turning.{IsBuilt, Sends, TakesTurn};
-ghost use Rattle.datacentre.specs.Told.{IsToldBy};
+ghost use Rattle.stage_turns.specs.Told.{IsToldBy};
 ghost use Rattle.record_codec.specs.declared.message.Message.{Message};
 ghost use Rattle.record_codec.specs.Wire.{SpellsMessage};
 ghost use Rattle.stage_world.specs.MoreTurns.{message_of, receive_turn};
@@ -16,7 +17,6 @@ use crate::opening::{
     new_batchers, new_filters, new_maintainers, new_ring, new_senders, new_sessions, new_vectors,
 };
 use crate::parts::Parts;
-use crate::ring::holder;
 use crate::{Session, TurnDone, turns};
 use abstract_log::{Sizes, Step, Workload};
 use awareness_table::Aware;
@@ -143,7 +143,7 @@ impl Datacentre {
         if self.failed {
             return 0;
         }
-        holder(&self.parts.queues) as u32
+        turns::holder(&self.parts.queues) as u32
     }
 
     /// The counts of its log, which are the token's.
@@ -153,7 +153,7 @@ impl Datacentre {
         if self.failed {
             return Counts::zero(1);
         }
-        match self.parts.queues.as_slice()[holder(&self.parts.queues)].token() {
+        match self.parts.queues.as_slice()[turns::holder(&self.parts.queues)].token() {
             Some(token) => token.counts(),
             None => unreachable!(),
         }

@@ -9,12 +9,11 @@ ghost use Rattle.stage_world.specs.Turns.{flush_turn, gossip_turn, pass_turn, pl
 ghost use Rattle.stage_world.specs.MoreTurns.{learn_turn, receive_turn};
 ghost use Rattle.datacentre.specs.Seen.{seen};
 ghost use Rattle.stage_world.specs.Schedules.{turn_of};
-ghost use Rattle.datacentre.specs.Clients.{writes};
-ghost use Rattle.datacentre.specs.Told.{IsToldBy};
+ghost use Rattle.stage_turns.specs.Clients.{writes};
+ghost use Rattle.stage_turns.specs.Told.{IsToldBy};
 ghost use Rattle.datacentre.specs.Turning.{IsBuilt, IsBuiltCommand, IsPacketOf, IsTurned, MayTurn, send_told};
 
 use crate::parts::Parts;
-use crate::stamping::place_of;
 use crate::{TurnDone, turns};
 use abstract_log::{Outcome, Step};
 use cz_base::{DcId, NoMemory, Seq};
@@ -142,7 +141,7 @@ impl Parts {
         requires built { All (λ x. All IsBuiltCommand x.commands) self.old.sessions }
         ensures { IfOk result (λ done. IsTurned self.old self.new done (client_turn self.old.dc (seen self.old) s)) }
     {
-        let Some(at) = place_of(&self.sessions, s) else {
+        let Some(at) = turns::place_of(&self.sessions, s) else {
             return Ok(self.absent());
         };
         if self.writes(at) {

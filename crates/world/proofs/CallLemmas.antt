@@ -12,7 +12,7 @@ use Rattle.record_codec.specs.Wire.{SpellsMessage}
 use Rattle.stage_world.specs.MoreTurns.{message_of, names_of, receive_turn}
 use Rattle.stage_world.specs.Turns.{Turned, quiet, where_there}
 use Rattle.stage_world.specs.Schedules.{turn_of}
-use Rattle.datacentre.specs.declared.done.TurnDone.{TurnDone}
+use Rattle.stage_turns.specs.declared.done.TurnDone.{TurnDone}
 use Rattle.datacentre.specs.Seen.{DatacentreState}
 use Rattle.datacentre.specs.Turning.{Sends, TakesTurn}
 use Rattle.world.specs.Showing.{HasSent, HasTurned, IsSeenAt}

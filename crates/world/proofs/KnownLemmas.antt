@@ -11,7 +11,8 @@ use Rattle.stage_world.specs.Stages.{Datacentre, Stages}
 use Rattle.stage_world.specs.Whole.{datacentre_at, nowhere_at}
 use Rattle.stage_world.specs.MoreTurns.{same_counts}
 use Rattle.stage_world.specs.Settling.{has_unanswered}
-use Rattle.datacentre.specs.Seen.{DatacentreState, StandsForALog, is_unanswered}
+use Rattle.datacentre.specs.Seen.{DatacentreState, StandsForALog}
+use Rattle.stage_turns.specs.Clients.{is_unanswered}
 use Rattle.world.specs.Settled.{AreKnown, IsKnown}
 use Rattle.world.specs.Showing.{states_from}
 use Rattle.world.specs.Taking.{HasTaken, IsTaken, StagesState, Taken, stages_after}

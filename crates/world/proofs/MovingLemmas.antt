@@ -27,10 +27,10 @@ use Rattle.stage_world.specs.MoreTurns.{message_of, names_of, receive_turn}
 use Rattle.stage_world.specs.LinkTurns.{deliver_turn, has_lost, link_length, moved_at, put_in_link, send_turn, still, with_link}
 use Rattle.stage_world.specs.Schedules.{IsStep, place_of_step, step_of, turn_of}
 use Rattle.stage_world.specs.Whole.{IsTold, datacentre_at, link_at}
-use Rattle.datacentre.specs.declared.done.TurnDone.{TurnDone}
+use Rattle.stage_turns.specs.declared.done.TurnDone.{TurnDone}
 use Rattle.datacentre.specs.Seen.{StandsForALog}
 use Rattle.datacentre.specs.Turning.{IsBuilt, IsBuiltCommand}
-use Rattle.datacentre.proofs.ToldLemmas.{links_spelled}
+use Rattle.stage_turns.proofs.ToldLemmas.{links_spelled}
 use Rattle.world.specs.declared.sites.Sites.{Sites}
 use Rattle.world.specs.Links.{AreThere, copy_outcome, lose_outcome, outcome_of_copy, packets_at, with_packets}
 use Rattle.world.specs.Showing.{AreBuilt, HasMoved, HasSent, HasTurned, IsBuiltStep, IsSeenAt, MayReceiveAt, MaySendAt, MayStep, MayTurnAt, Shows, packets_of, uses_link}

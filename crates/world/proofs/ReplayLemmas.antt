@@ -21,7 +21,7 @@ use Rattle.stage_world.specs.MoreTurns.{same_counts}
 use Rattle.stage_world.specs.Opening.{opening}
 use Rattle.stage_world.specs.Schedules.{after_steps}
 use Rattle.stage_world.specs.Settling.{IsSettlingUpTo, has_unanswered, is_agreed, is_answering, is_unfinished}
-use Rattle.datacentre.proofs.LearningLemmas.{same_decided}
+use Rattle.stage_turns.proofs.LearningLemmas.{same_decided}
 use Rattle.world.specs.declared.stages.Played.{Played}
 use Rattle.world.specs.Replays.{IsReplayed}
 use Rattle.world.specs.Settled.{HasPlayed}

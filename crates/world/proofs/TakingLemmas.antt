@@ -17,7 +17,7 @@ use Rattle.stage_world.specs.Opening.{opening}
 use Rattle.stage_world.specs.Schedules.{IsStep, after_steps, events_of, step_of}
 use Rattle.stage_world.specs.Whole.{StandsFor}
 use Rattle.stage_world.proofs.AllTurns.{schedule}
-use Rattle.datacentre.specs.declared.done.TurnDone.{TurnDone}
+use Rattle.stage_turns.specs.declared.done.TurnDone.{TurnDone}
 use Rattle.world.specs.declared.sites.Sites.{Sites}
 use Rattle.world.specs.declared.stages.Played.{Played}
 use Rattle.world.specs.Showing.{AreBuilt, HasMoved, IsBuiltStep, MayStep, Shows}

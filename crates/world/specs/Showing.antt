@@ -14,10 +14,10 @@ use Rattle.stage_world.specs.Opening.{one_of_each, opening_at}
 use Rattle.stage_world.specs.LinkTurns.{Moved}
 use Rattle.stage_world.specs.Schedules.{IsStep, turn_of}
 use Rattle.stage_world.specs.Whole.{StandsFor}
-use Rattle.datacentre.specs.declared.done.TurnDone.{TurnDone}
+use Rattle.stage_turns.specs.declared.done.TurnDone.{TurnDone}
 use Rattle.stage_world.specs.Turns.{Turned}
 use Rattle.datacentre.specs.Seen.{DatacentreState, StandsForALog}
-use Rattle.datacentre.specs.Told.{IsToldBy}
+use Rattle.stage_turns.specs.Told.{IsToldBy}
 use Rattle.world.specs.declared.sites.Sites.{Sites}
 use Rattle.datacentre.specs.Turning.{IsBuilt, IsBuiltCommand, IsPacketOf}
 

@@ -1,7 +1,7 @@
 use Rattle.std.proofs.Common.{ap, ◌∙◌}
 use Rattle.std.proofs.lemmas.Bool.Decides.{same_from_decides}
 use Rattle.stage_world.specs.MoreTurns.{same_counts}
-use Rattle.datacentre.proofs.LearningLemmas.{same_decided, same_stored}
+use Rattle.stage_turns.proofs.LearningLemmas.{same_decided, same_stored}
 use Rattle.world.proofs.looks.has_counts.Goals as goal
 
 pub returns : goal.returns

@@ -1,0 +1,9 @@
+pub mod Lent
+pub mod Stamping
+pub mod Flushing
+pub mod Clients
+pub mod Placing
+pub mod Telling
+pub mod Learning
+pub mod Told
+pub mod Rising
