@@ -1,6 +1,7 @@
 -- What is asked of datacentres whose stages are known.
-use Rattle.std.proofs.Common.{◌≡◌, ℕ, ◌+◌, ◌<◌, ◌≤◌, ◌&&◌, ◌||◌, Bool, true, false, List, length, take, get_or, ap, ap₂, sym, ◌∙◌, subst, arith, Some}
+use Rattle.std.proofs.Common.{◌≡◌, ◌≢◌, ◌↔◌, ℕ, ◌+◌, ◌<◌, ◌≤◌, ◌&&◌, ◌||◌, Bool, true, false, List, [], ◌∷◌, length, take, get_or, refl, ap, ap₂, sym, ◌∙◌, subst, arith, Some, IsTrue, nat_lt}
 use Rattle.std.specs.List.{list_all, list_any}
+use Rattle.std.proofs.lemmas.Bool.Decides.{Decides-ltb}
 use Rattle.std.proofs.lemmas.List.Folds.{list_all_at, list_all_more, list_any_at, list_any_more}
 use Rattle.std.specs.Option.{ForSome}
 use Rattle.abstract_log.specs.declared.script.Script.{Script}
@@ -9,7 +10,7 @@ use Rattle.abstract_log.specs.Runs.{world_of}
 use Rattle.log_laws.proofs.LimitedRuns.{laws_of_run}
 use Rattle.stage_world.specs.Stages.{Datacentre, Stages}
 use Rattle.stage_world.specs.Whole.{datacentre_at, nowhere_at}
-use Rattle.stage_world.specs.MoreTurns.{same_counts}
+use Rattle.stage_world.specs.MoreTurns.{message_of, same_counts}
 use Rattle.stage_world.specs.Settling.{has_unanswered}
 use Rattle.datacentre.specs.Seen.{DatacentreState, StandsForALog}
 use Rattle.stage_turns.specs.Clients.{is_unanswered}
@@ -105,3 +106,38 @@ module _ (z : Stages) (xs items : List DatacentreState) (known : AreKnown z xs) 
 
   pub same_at : (counts : List ℕ) (b : Bool) → ForSome x.stages (λ y. b ≡ same_counts counts y.token.counts) → b ≡ same_counts counts (datacentre_at z i).token.counts
   same_at counts b f = told (λ y. b ≡ same_counts counts y.token.counts) i (datacentre_at z i) x item_is f
+
+-- A datacentre by its letter
+
+pub asks_of : (P : Datacentre → Type 0) (d : ℕ) (z : Datacentre) (x : DatacentreState) → IsKnown d z x → P z → ForSome x.stages P
+asks_of P d z x known holds = subst (λ (s : DatacentreState). ForSome s.stages P) (sym known.is) (λ y is. subst P (same_stages z y is) holds)
+  where
+    same_stages : (a b : Datacentre) → Some a ≡ Some b → a ≡ b
+    same_stages a b is = cc
+
+pub some_if : {A : Type 0} (b : Bool) (xs : List A) → IsTrue b ↔ (xs ≢ []) → b ≡ nat_lt 0 (length xs)
+some_if true [] tells = absurd (tells.0 refl refl)
+some_if false [] tells = refl
+some_if true (x ∷ xs) tells = sym ((Decides-ltb 0 (length (x ∷ xs))).1 (omega arith))
+some_if false (x ∷ xs) tells = absurd (let holds : IsTrue false = tells.1 (λ e. absurd (cc)) in cc)
+
+module _ (z : Stages) (xs : List DatacentreState) (known : AreKnown z xs) (d i : ℕ) (x : DatacentreState) (same : i ≡ d) (within : d < length xs) (here : x ≡ get_or xs i x) where
+  pub lettered : IsKnown d (datacentre_at z d) x
+  lettered = known_at z xs known d x within (here ∙ ap (λ j. get_or xs j x) same)
+
+  pub table_within : (to : ℕ) → to < length xs → ForSome x.stages (λ y. to < length y.table)
+  table_within to less =
+      let inside : d < known.world.workload.dcs = omega (arith, within, count_known z xs known, known.stands.size) in
+      asks_of (λ y. to < length y.table) d (datacentre_at z d) x lettered
+      (omega (arith, less, count_known z xs known, known.stands.size, (known.stands.each d inside).aware.square.rows))
+
+  pub asks_letter : ForSome x.stages (StandsForALog x.dc)
+  asks_letter = asks d (datacentre_at z d) x lettered
+
+  pub told_letter : (P : Datacentre → Type 0) → ForSome x.stages P → P (datacentre_at z d)
+  told_letter P f = told P d (datacentre_at z d) x lettered f
+
+  pub more_letter : (k to : ℕ) (b : Bool) → ForSome x.stages (λ y. IsTrue b ↔ ((message_of x.dc y k to).records ≢ [])) → b ≡ nat_lt 0 (length (message_of d (datacentre_at z d) k to).records)
+  more_letter k to b f =
+      some_if b (message_of d (datacentre_at z d) k to).records
+      (subst (λ (s : DatacentreState). ForSome s.stages (λ y. IsTrue b ↔ ((message_of s.dc y k to).records ≢ []))) lettered.is f (datacentre_at z d) refl)

@@ -201,7 +201,7 @@ put_moves dcs z old new d e m h within datacentres links =
     shows_link dcs z old h d e (put_last (link_at z d e) m) new within datacentres
     (links ∙ ap (λ ps. with_packets old.links d e (put_last ps (message_bytes dcs m))) (packets_are dcs z old d e h) ∙ ap (with_packets old.links d e) (put_last-map (message_bytes dcs) (link_at z d e) m))
 
-length_are : (dcs : ℕ) (z : Stages) (new : Sites) (d e : ℕ) → Shows dcs z new → length (packets_at new.links d e) ≡ link_length z d e
+pub length_are : (dcs : ℕ) (z : Stages) (new : Sites) (d e : ℕ) → Shows dcs z new → length (packets_at new.links d e) ≡ link_length z d e
 length_are dcs z new d e h = ap length (packets_are dcs z new d e h) ∙ length-map (link_at z d e) (message_bytes dcs)
 
 lost_are : (dcs : ℕ) (z : Stages) (old : Sites) (d e : ℕ) → Shows dcs z old → is_some (lost_by_put (packets_at old.links d e)) ≡ has_lost z d e

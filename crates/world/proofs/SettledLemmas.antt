@@ -16,6 +16,8 @@ use Rattle.stage_world.specs.Schedules.{AreTwo, IsStep, after_steps, step_of}
 use Rattle.stage_world.specs.Settling.{Errand, IsSettlingUpTo, after_passes, all_rounds, answering_rounds, errand_turns, errands, exchange, exchange_turns, is_answering, is_due, is_unfinished, sent_and_delivered, telling_rounds, turns_of_passes}
 use Rattle.world.specs.Settled.{HasLooped, MayBePlayed, Plays}
 use Rattle.world.specs.Showing.{IsBuiltStep}
+use Rattle.world.specs.Links.{AreThere, packets_at}
+use Rattle.world.proofs.MovingLemmas.{length_are, links_there}
 use Rattle.world.proofs.RoundLemmas.{take_all}
 use Rattle.world.proofs.SettlingLemmas.{errands_two}
 use Rattle.world.specs.Taking.{HasTaken, IsTaken, StagesState, Taken, settled, stages_after, steps_of}
@@ -235,7 +237,7 @@ errand_not_due e s not_due script ts h =
     record {
       steps = [];
       are = sym (cond-false (is_due z e) (sent_and_delivered script.workload z e) [] (not_due script ts h));
-      taken = (plays_none s script ts h).taken;
+      taken = subst (λ us. HasTaken script us s) (sym (append-nil ts)) h;
     }
 
 pub errand_due : (e : Errand) (a b : StagesState) → ((script : Script) (ts : List Taken) → HasTaken script ts a → is_due (stages_after script ts) e ≡ true) → Plays (λ load z xs. xs ≡ sent_and_delivered load z e) a b → Plays (λ load z xs. xs ≡ errand_turns load z e) a b
@@ -260,3 +262,12 @@ sends_and_delivers e n a b c sent newest delivered =
         ap₂ (λ us vs. us ++ vs) first.0 (second ∙ ap (λ k. Deliver e.from e.to k 0 ∷ []) count))
     (plays_knowing (λ load z xs. xs ≡ send ∷ []) (λ z. n ≡ link_length z e.from e.to) a b sent newest)
     delivered
+
+-- the link is there, and has as many packets as messages
+pub link_of : (script : Script) (ts : List Taken) (s : StagesState) (d e : ℕ) → HasTaken script ts s → AreTwo s.workload.dcs d e → AreThere d e s.sites.links
+link_of script ts s d e h two =
+    let dcs : s.workload.dcs ≡ script.workload.dcs = ap (λ (l : Workload). l.dcs) h.workload in
+    links_there script.workload.dcs (stages_after script ts) s.sites d e h.shown (omega (arith, two.first, dcs)) (omega (arith, two.second, dcs))
+
+pub count_of_link : (script : Script) (ts : List Taken) (s : StagesState) (d e : ℕ) → HasTaken script ts s → length (packets_at s.sites.links d e) ≡ link_length (stages_after script ts) d e
+count_of_link script ts s d e h = length_are script.workload.dcs (stages_after script ts) s.sites d e h.shown

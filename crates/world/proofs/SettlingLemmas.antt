@@ -13,7 +13,7 @@ use Rattle.abstract_log.specs.Worlds.{log_of}
 use Rattle.abstract_log.specs.Runs.{world_of}
 use Rattle.stage_world.specs.Opening.{numbered}
 use Rattle.stage_world.specs.Schedules.{AreTwo, IsStep}
-use Rattle.stage_world.specs.Settling.{Errand, below, clients, errands, gossips, local_round, places, ring, rounds}
+use Rattle.stage_world.specs.Settling.{Errand, below, clients, errands, flushes, gossips, local_round, passes, places, ring, rounds}
 use Rattle.stage_world.specs.Stages.{Datacentre, Session, Stages}
 use Rattle.stage_world.specs.StandsFor.{IsAsFar, StandsAt}
 use Rattle.stage_world.specs.Whole.{StandsFor, datacentre_at}
@@ -37,7 +37,7 @@ module _ (load : Workload) (d : ℕ) (z : Datacentre) (within : d < load.dcs) wh
   ring_good : All (Good load) (ring d z)
   ring_good =
       all_flat (Good load) (λ i. i < length z.queues) (λ i. Stamp d ((z.token.at + i) % length z.queues) ∷ Token d ∷ []) (below (length z.queues))
-      (λ i any. All-cons (Good load) _ _ (within, tt) (All-cons (Good load) _ _ (within, tt) (All-nil (Good load)))) (all_below (length z.queues))
+      (λ i any. All-cons (Good load) (Stamp d ((z.token.at + i) % length z.queues)) (Token d ∷ []) (within, tt) (All-cons (Good load) (Token d) [] (within, tt) (All-nil (Good load)))) (all_below (length z.queues))
 
   places_good : All (Good load) (places d z)
   places_good =
@@ -51,17 +51,15 @@ module _ (load : Workload) (d : ℕ) (z : Datacentre) (within : d < load.dcs) wh
 
   round_good : All (λ (x : Session). x.number < length load.sessions) z.sessions → All (Good load) (local_round d z)
   round_good there =
-      All-append (Good load) _ _
-      (All-append (Good load) _ _
-        (All-append (Good load) _ _
-          (All-append (Good load) _ _
-            (All-append (Good load) _ _
-              (All-append (Good load) _ _ (clients_good there) (all_numbered (Good load) (Flush d) (length z.batchers) (λ b less. (within, tt))))
-              (all_numbered (Good load) (λ f. Pass d f (f % length z.queues)) (length z.filters) (λ f less. (within, tt))))
-            ring_good)
-          places_good)
-        gossips_good)
-      (All-cons (Good load) (Learn d) [] (within, tt) (All-nil (Good load)))
+      let G : Step → Type 0 = Good load in
+      let flush : All G (flushes d z) = all_numbered G (Flush d) (length z.batchers) (λ b less. (within, tt)) in
+      let pass : All G (passes d z) = all_numbered G (λ f. Pass d f (f % length z.queues)) (length z.filters) (λ f less. (within, tt)) in
+      let one = All-append G (clients z) (flushes d z) (clients_good there) flush in
+      let two = All-append G (clients z ++ flushes d z) (passes d z) one pass in
+      let three = All-append G (clients z ++ flushes d z ++ passes d z) (ring d z) two ring_good in
+      let four = All-append G (clients z ++ flushes d z ++ passes d z ++ ring d z) (places d z) three places_good in
+      let five = All-append G (clients z ++ flushes d z ++ passes d z ++ ring d z ++ places d z) (gossips d z) four gossips_good in
+      All-append G (clients z ++ flushes d z ++ passes d z ++ ring d z ++ places d z ++ gossips d z) (Learn d ∷ []) five (All-cons G (Learn d) [] (within, tt) (All-nil G))
 
 -- the sessions of a datacentre are there
 sessions_there : (w : World) (d : ℕ) (z : Datacentre) → StandsAt w d z → All (λ (x : Session). x.number < length w.workload.sessions) z.sessions

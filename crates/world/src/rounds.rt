@@ -1,8 +1,7 @@
 //! The turns of local rounds, as a list: what the stages are when a round begins decides all of them.
-ghost use Rattle.std.specs.Prelude.{◌≡◌, ◌++◌, ◌<◌, ◌≤◌, ◌^◌, OnOk};
+ghost use Rattle.std.specs.Prelude.{◌≡◌, ◌++◌, ◌<◌, ◌≤◌, ◌%◌, ◌^◌, flat_map, map, OnOk};
 ghost use Rattle.stage_world.specs.Stages.{Datacentre as StagesAt, Session as SessionState};
 ghost use Rattle.stage_world.specs.Settling.{below, clients, flushes, gossips, local_round, passes, places, ring};
-ghost use Rattle.std.specs.Prelude.{flat_map, map, List};
 ghost use Rattle.abstract_log.specs.declared.script.Step.TheVariants.{Client, Flush, Gossip, Pass, Place, Stamp, Token};
 ghost use Rattle.stage_world.specs.Opening.{numbered};
 ghost use Rattle.world.specs.Settled.{IsKnown, ring_from};

@@ -5,4 +5,4 @@ use Rattle.world.specs.Settled.{AreKnown}
 use Rattle.world.proofs.looks.rounds.Given as goal
 
 abbrev pub invariant-loop-d : goal.invariant-loop-d
-invariant-loop-d l = (z : Stages) → AreKnown z l.datacentres → l.steps ≡ rounds z (take l.d-index l.d-items)
+invariant-loop-d l = (z : Stages) → AreKnown z l.datacentres → l.steps ≡ rounds z (take l.d-index l.ds)

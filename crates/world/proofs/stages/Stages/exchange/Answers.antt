@@ -1,7 +1,7 @@
 use Rattle.std.proofs.Common.{arith}
 use Rattle.world.proofs.KnownLemmas.{known_of, known_some}
 use Rattle.world.proofs.SettledLemmas.{errand_two, errands_all, errands_next, plays_none, still_taken}
-use Rattle.world.proofs.settling.Stages.exchange.Goals as goal
+use Rattle.world.proofs.stages.Stages.exchange.Goals as goal
 
 pub loop-errand-init : goal.loop-errand-init
 loop-errand-init c = plays_none _
@@ -17,3 +17,6 @@ loop-errand-preserved c = errands_next _ _ _ _ _ _ c.loop-errand-test.true c.err
 
 pub returns : goal.returns
 returns c = ?
+
+pub errands-requires : goal.errands-requires
+errands-requires c = ?

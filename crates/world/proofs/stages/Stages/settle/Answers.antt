@@ -1,6 +1,6 @@
 use Rattle.std.proofs.lemmas.Result.{on_ok_weaker}
 use Rattle.world.proofs.SettledLemmas.{plays_settling, still_taken}
-use Rattle.world.proofs.settling.Stages.settle.Goals as goal
+use Rattle.world.proofs.stages.Stages.settle.Goals as goal
 
 pub play_until_told-requires : goal.play_until_told-requires
 play_until_told-requires c = still_taken _ _ _ c.in_ok-play_until_answered.ensures c.requires

@@ -2,7 +2,7 @@ use Rattle.std.proofs.Common.{sym, ◌∙◌, arith}
 use Rattle.stage_world.specs.Settling.{answering_rounds, is_answering}
 use Rattle.world.proofs.KnownLemmas.{known_of}
 use Rattle.world.proofs.SettledLemmas.{loop_done, loop_given_up, none_so_far, one_pass_more, still_taken}
-use Rattle.world.proofs.settling.Stages.play_until_answered.Goals as goal
+use Rattle.world.proofs.stages.Stages.play_until_answered.Goals as goal
 
 pub loop-pass-init : goal.loop-pass-init
 loop-pass-init c = none_so_far is_answering answering_rounds _

@@ -2,7 +2,7 @@ use Rattle.std.proofs.Common.{arith, length, sym, ◌∙◌, ap, subst, take, Li
 use Rattle.std.specs.List.{All}
 use Rattle.std.proofs.lemmas.List.Elements.{All-get_or}
 use Rattle.world.proofs.SettledLemmas.{AreThese, item_may, plays_all, plays_next, plays_none, plays_one}
-use Rattle.world.proofs.settling.Stages.play.Goals as goal
+use Rattle.world.proofs.stages.Stages.play.Goals as goal
 
 pub loop-step-init : goal.loop-step-init
 loop-step-init c = plays_none _
