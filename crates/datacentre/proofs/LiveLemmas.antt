@@ -58,11 +58,12 @@ some_at false z x is = same_Some z x is
 
 -- what a turn leaves, of a datacentre whose stages are these
 
-takes : {E : Type 0} (result : Result TurnDone E) (p new : Parts) (d : ℕ) (b : Bool) (turned : Turned) → p.dc ≡ d → b ≡ is_err result → IfOk result (λ done. IsTurned p new done turned) → TakesTurn d turned result (state_of b new)
+takes : {E : Type 0} (result : Result TurnDone E) (p new : Parts) (d : ℕ) (b : Bool) (turned : Turned) → p.dc ≡ d → b ≡ is_err result → IfOk result (λ done. IsTurned p new done turned) → TakesTurn d (seen p) turned result (state_of b new)
 takes (Ok done) p new d b turned here is h = record {
   state = ap (λ c. state_of c new) is ∙ (λ i. record { dc = (h.here ∙ here) i; stages = Some (h.stages i) });
   outcome = h.outcome;
   events = h.events;
+  changed = h.changed;
 }
 takes (Err e) p new d b turned here is h = ap (λ c. cond c None (Some (seen new))) is
 
@@ -78,6 +79,7 @@ sends (Ok sent) p new d b k e here is h packet = (
     state = ap (λ c. state_of c new) is ∙ (λ i. record { dc = (h.here ∙ here) i; stages = Some (h.stages i) });
     outcome = h.outcome;
     events = h.events;
+    changed = h.changed;
   },
   packet,
 )
@@ -116,17 +118,17 @@ module _ (failed : Bool) (p : Parts) (s : DatacentreState) (view : state_of fail
 
   module _ {E : Type 0} (new : Parts) (b : Bool) (x : Datacentre) (is : s.stages ≡ Some x) where
     pub took : (result : Result TurnDone E) (step : Step) → b ≡ is_err result → IfOk result (λ done. IsTurned p new done (turn_of p.dc (seen p) step))
-        → TakesTurn s.dc (turn_of s.dc x step) result (state_of b new)
+        → TakesTurn s.dc x (turn_of s.dc x step) result (state_of b new)
     took result step fails h =
-        subst (λ z. TakesTurn s.dc (turn_of s.dc z step) result (state_of b new)) (some_is x is)
+        subst (λ z. TakesTurn s.dc z (turn_of s.dc z step) result (state_of b new)) (some_is x is)
         (takes result p new s.dc b (turn_of s.dc (seen p) step) here fails (subst (λ d. IfOk result (λ done. IsTurned p new done (turn_of d (seen p) step))) here h))
 
     pub received_it : (result : Result TurnDone E) (r : ℕ) (bytes : List ℕ) (m : Message) → b ≡ is_err result
         → ((a : Message) → SpellsMessage (length p.table.table) bytes a → IfOk result (λ done. IsTurned p new done (receive_turn p.dc (seen p) r a)))
-        → SpellsMessage (length x.table) bytes m → TakesTurn s.dc (receive_turn s.dc x r m) result (state_of b new)
+        → SpellsMessage (length x.table) bytes m → TakesTurn s.dc x (receive_turn s.dc x r m) result (state_of b new)
     received_it result r bytes m fails h spelled =
         let known : SpellsMessage (length p.table.table) bytes m = subst (λ (z : Datacentre). SpellsMessage (length z.table) bytes m) (sym (some_is x is)) spelled in
-        subst (λ z. TakesTurn s.dc (receive_turn s.dc z r m) result (state_of b new)) (some_is x is)
+        subst (λ z. TakesTurn s.dc z (receive_turn s.dc z r m) result (state_of b new)) (some_is x is)
         (takes result p new s.dc b (receive_turn s.dc (seen p) r m) here fails (subst (λ d. IfOk result (λ done. IsTurned p new done (receive_turn d (seen p) r m))) here (h m known)))
 
     pub sent_it : (result : Result (TurnDone × Option (List ℕ)) E) (k e : ℕ) → b ≡ is_err result

@@ -73,7 +73,7 @@ impl Datacentre {
     pub fn turn(&mut self, step: &Step) -> Result<TurnDone, NoMemory>
         requires log { ForSome self.old.stages (StandsForALog self.old.dc) }
         requires built { ForSome self.old.stages (λ z. IsBuilt z step.now) }
-        ensures turn { ForSome self.old.stages (λ z. TakesTurn self.old.dc (turn_of self.old.dc z step.now) result self.new) }
+        ensures turn { ForSome self.old.stages (λ z. TakesTurn self.old.dc z (turn_of self.old.dc z step.now) result self.new) }
         ensures failed { self.old.stages ≡ None → IsErr result × (self.new ≡ self.old) }
     {
         if self.failed {
@@ -104,7 +104,7 @@ impl Datacentre {
     pub fn receive(&mut self, from: DcId, r: u32, packet: &Packet) -> Result<TurnDone, NoMemory>
         requires log { ForSome self.old.stages (StandsForALog self.old.dc) }
         requires told { ForSome self.old.stages (λ z. IsToldBy (length z.table) from packet.now) }
-        ensures turn { ForSome self.old.stages (λ z. (m : Message) → SpellsMessage (length z.table) packet.now m → TakesTurn self.old.dc (receive_turn self.old.dc z r m) result self.new) }
+        ensures turn { ForSome self.old.stages (λ z. (m : Message) → SpellsMessage (length z.table) packet.now m → TakesTurn self.old.dc z (receive_turn self.old.dc z r m) result self.new) }
         ensures failed { self.old.stages ≡ None → IsErr result × (self.new ≡ self.old) }
     {
         if self.failed {

@@ -1,5 +1,5 @@
 //! The turns of a whole datacentre: where a member is not there nothing happens, else it is lent its stages.
-ghost use Rattle.std.specs.Prelude.{◌≡◌, ◌<◌, ◌&&◌, [], nat_lt, length, slice_index_or, All, IfOk};
+ghost use Rattle.std.specs.Prelude.{◌≡◌, ◌<◌, ◌&&◌, [], false, nat_lt, length, slice_index_or, All, IfOk};
 ghost use Rattle.abstract_log.specs.declared.script.Outcome.TheVariants.{Absent};
 ghost use Rattle.record_codec.specs.declared.message.Message.{Message};
 ghost use Rattle.record_codec.specs.Wire.{SpellsMessage};
@@ -206,11 +206,12 @@ impl Parts {
 
     // What is answered where a member is not there.
     fn absent(&self) -> TurnDone
-        ensures { result ≡ record { outcome = Absent; events = [] } }
+        ensures { result ≡ record { outcome = Absent; events = []; changed = false } }
     {
         TurnDone {
             outcome: Outcome::Absent,
             events: Seq::new(self.queues.alloc()),
+            changed: false,
         }
     }
 }

@@ -1,3 +1,4 @@
+pub mod ChangeLemmas
 pub mod StampedItems
 pub mod AckLemmas
 pub mod RingLemmas

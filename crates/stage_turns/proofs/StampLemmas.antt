@@ -1,5 +1,5 @@
 -- The turn of stamping, from what its calls tell.
-use Rattle.std.proofs.Common.{◌≡◌, ℕ, ◌+◌, ◌<◌, ◌^◌, ◌↔◌, Bool, cond, eqb, true, false, List, [], ◌∷◌, ◌++◌, length, map, refl, ap, ap₂, sym, subst, ◌∙◌, arith, Option, Some, None, IsSomeAnd}
+use Rattle.std.proofs.Common.{◌≡◌, ℕ, ◌+◌, ◌<◌, ◌^◌, ◌↔◌, ◌||◌, not, Bool, cond, eqb, true, false, List, [], ◌∷◌, ◌++◌, length, map, refl, ap, ap₂, sym, subst, ◌∙◌, arith, Option, Some, None, IsSomeAnd}
 use Rattle.std.specs.Bool.{IsTrue}
 use Rattle.std.specs.List.{All, fold, sum_by}
 use Rattle.std.specs.Option.{ForSome, option_map_or}
@@ -9,15 +9,18 @@ use Rattle.std.proofs.lemmas.List.Elements.{All-weaker}
 use Rattle.std.proofs.lemmas.Option.{same_Some}
 use Rattle.causal_deps.specs.declared.record.Place.{Place}
 use Rattle.causal_deps.specs.declared.record.Item.{Item}
+use Rattle.causal_deps.specs.declared.record.Record.{Record}
 use Rattle.abstract_log.specs.declared.event.Event.{Event}
 use Rattle.abstract_log.specs.declared.script.Outcome.{Outcome}
 use Rattle.abstract_log.specs.declared.script.Outcome.TheVariants.{Empty, NoToken, Stamped}
 use Rattle.token_queue.specs.declared.entry.Stamp.{Stamp}
 use Rattle.token_queue.specs.Drain.{drain_by}
-use Rattle.token_queue.specs.Queues.{QueueState, TokenState, Stamps, stamped_queue, stamped_token, stamps_of, entries_from}
+use Rattle.token_queue.specs.Queues.{QueueState, TokenState, Stamps, stamped_queue, stamped_token, stamp_of, stamps_of, entries_from}
 use Rattle.stage_world.specs.Stages.{Session, is_draft_of}
 use Rattle.stage_world.specs.Turns.{all_acknowledged, stamp_events, unless_empty, place_of_entry}
+use Rattle.stage_turns.specs.Changing.{has_some, stamp_changes}
 use Rattle.stage_turns.specs.Stamping.{CanAck, IsNewAt, MayStamp, acked_by, drained_of, event_of, events_stamped, is_ack_of, items_of, outcome_stamped, queue_stamped, sessions_stamped, stamped_outcome}
+use Rattle.stage_turns.proofs.ChangeLemmas.{has_some_is, has_some-map}
 use Rattle.stage_turns.proofs.StampedItems.{AreStampedAs, drained_as, stamped_among, acks_are_drafts, events_are, sessions_are, places_are}
 
 -- where something is deferred there is something to stamp
@@ -26,6 +29,10 @@ not_idle q t n is some other x has = (
   λ zero'. absurd (other (eqb-true n 0 zero')),
   λ none. absurd (other (omega (arith, is, ap (λ (u : TokenState). length u.deferred) (same_Some t x (some ∙ has)), ap (λ (xs : List Item). length xs) none, length-append x.deferred q.items))),
 )
+
+some_entries : (last : ℕ) (rs : List Record) → has_some (entries_from last rs) ≡ has_some rs
+some_entries last [] = refl
+some_entries last (r ∷ rs) = refl
 
 -- A queue with a token stamped.
 pub record HasStamped (d : ℕ) (q : QueueState) (xs : List Session) (stamps : List Stamp) (new : QueueState) : Type 0 where
@@ -99,3 +106,10 @@ module _ (d : ℕ) (q : QueueState) (xs : List Session) (stamps : List Stamp) (n
   outcome_is idle deferred outcome tells counted made =
       made ∙ answered (items_of q t) idle (told deferred) (tells t h.is) ∙ ap (unless_empty (items_of q t)) (told_is deferred counted)
       ∙ sym (ap (λ o. option_map_or (λ u. stamped_outcome q u) o NoToken) h.is)
+
+  pub change_is : (empty stamped b : Bool) → IsTrue empty ↔ (q.items ≡ []) → stamped ≡ has_some stamps → b ≡ (not empty || stamped) → b ≡ stamp_changes q
+  change_is empty stamped b items some made =
+      let records : has_some stamps ≡ has_some (drained_of q t).records =
+      ap (λ (ss : List Stamp). has_some ss) h.answer ∙ has_some-map stamp_of (entries_from t.last (drained_of q t).records) ∙ some_entries t.last (drained_of q t).records in
+      made ∙ ap₂ (λ c d. c || d) (has_some_is empty q.items items) (some ∙ records)
+      ∙ sym (ap (λ o. option_map_or (λ u. has_some q.items || has_some (drained_of q u).records) o false) h.is)

@@ -1,8 +1,8 @@
 -- What a turn leaves of the stages that it is lent is what the stage world's turn leaves.
-use Rattle.std.proofs.Common.{◌≡◌, ◌≢◌, ℕ, ◌<◌, cond, List, [], ◌++◌, length, set, refl, ap, sym, subst, ◌∙◌, inl, inr, arith, Some, None}
+use Rattle.std.proofs.Common.{◌≡◌, ◌≢◌, ℕ, ◌<◌, ◌||◌, false, cond, List, [], ◌++◌, length, set, refl, ap, ap₂, sym, subst, ◌∙◌, inl, inr, arith, Some, None}
 use Rattle.std.specs.Option.{option_map_or}
 use Rattle.std.proofs.lemmas.Bool.{cases_eq, eq-eqb, ne_eqb}
-use Rattle.std.proofs.lemmas.List.{get_or-set_other, length-set, map-set, set-get_or}
+use Rattle.std.proofs.lemmas.List.{get_or-set_other, length-map, length-set, map-set, set-get_or}
 use Rattle.std.proofs.lemmas.Grind.{get_or-set_at}
 use Rattle.causal_deps.specs.declared.record.Item.{Item}
 use Rattle.abstract_log.specs.declared.script.Outcome.TheVariants.{NoToken}
@@ -10,8 +10,11 @@ use Rattle.token_queue.specs.Drain.{Drained, drain_by}
 use Rattle.token_queue.specs.Queues.{QueueState, tokenless, stamped_queue, stamped_token}
 use Rattle.stage_world.specs.Stages.{Datacentre, no_queue, queue_at}
 use Rattle.stage_world.specs.Turns.{Turned, quiet, drained, all_acknowledged, stamped, stamp_outcome, stamp_turn, stamp_events, token_turn}
+use Rattle.stage_world.specs.Idle.{TellsChange, apart_from_epochs}
+use Rattle.stage_turns.specs.Changing.{has_some, stamp_changes}
 use Rattle.stage_turns.specs.Lent.{HaveToken, queues_seen, token_at_next, token_seen}
 use Rattle.stage_turns.specs.Stamping.{drained_of, events_stamped, outcome_stamped, queue_stamped, sessions_stamped, stamped_outcome}
+use Rattle.stage_turns.proofs.ChangeLemmas.{same_tells, stamp_tells}
 use Rattle.stage_turns.proofs.RingLemmas.{token_is}
 use Rattle.stage_turns.proofs.StampStands.{queue_seen}
 
@@ -23,6 +26,7 @@ pub record IsStampTurn (d : ℕ) (z : Datacentre) (qs : List QueueState) (i : �
   pub others : turned.after ≡ record z { sessions = turned.after.sessions; queues = turned.after.queues; token = turned.after.token }
   pub outcome : outcome_stamped (queue_at qs i) ≡ turned.outcome
   pub events : events_stamped d (queue_at qs i) ≡ turned.events
+  pub changed : TellsChange (stamp_changes (queue_at qs i)) z turned.after
 
 module _ (d : ℕ) (z : Datacentre) (qs : List QueueState) (i : ℕ) (seen : queues_seen qs ≡ z.queues) (has : HaveToken qs z.token) (within : i < length qs) where
   abbrev q : QueueState
@@ -39,6 +43,7 @@ module _ (d : ℕ) (z : Datacentre) (qs : List QueueState) (i : ℕ) (seen : que
         others = refl;
         outcome = ap (λ o. option_map_or (λ t. stamped_outcome q t) o NoToken) none;
         events = ap (λ o. option_map_or (λ t. stamp_events d t.last (drained_of q t).stamped (drained_of q t).records) o []) none;
+        changed = subst (λ o. TellsChange (option_map_or (λ t. has_some q.items || has_some (drained_of q t).records) o false) z z) (sym none) (same_tells (apart_from_epochs z));
       }
 
   abbrev stamped_here : Turned
@@ -73,7 +78,13 @@ module _ (d : ℕ) (z : Datacentre) (qs : List QueueState) (i : ℕ) (seen : que
         events =
             ap (λ o. option_map_or (λ t. stamp_events d t.last (drained_of q t).stamped (drained_of q t).records) o []) is
             ∙ ap (λ (a : Drained). stamp_events d z.token.last a.stamped a.records) drain;
+        changed = subst (λ b. TellsChange b z (stamped z i)) (sym (told is items drain)) (stamp_tells z i (omega (arith, within, ap (λ (xs : List QueueState). length xs) seen, length-map qs tokenless)) (ap (λ (x : QueueState). x.token) (sym without)));
       }
+    where
+      told : q.token ≡ Some z.token → q.items ≡ (queue_at z.queues i).items → drained_of q z.token ≡ drained z i → stamp_changes q ≡ (has_some (queue_at z.queues i).items || has_some (drained z i).records)
+      told is items drain =
+          ap (λ o. option_map_or (λ t. has_some q.items || has_some (drained_of q t).records) o false) is
+          ∙ ap₂ (λ (xs : List Item) (a : Drained). has_some xs || has_some a.records) items drain
 
   -- The stamping of a lent queue is the turn of the stage world.
   pub stamp_is_turn : IsStampTurn d z qs i (stamp_turn d z i)

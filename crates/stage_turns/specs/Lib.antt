@@ -2,6 +2,7 @@ pub mod Lent
 pub mod Stamping
 pub mod Flushing
 pub mod Clients
+pub mod Changing
 pub mod Placing
 pub mod Telling
 pub mod Learning

@@ -2,6 +2,7 @@
 ghost use Rattle.std.specs.Prelude.{◌≡◌, ◌≤◌, ◌++◌, ◌+◌, ◌^◌, ◌<◌, ℕ, Some, IfOk, OnOk};
 ghost use Rattle.abstract_log.specs.Answers.{shown_record};
 ghost use Rattle.stage_world.specs.Turns.{begun};
+ghost use Rattle.stage_turns.specs.Changing.{read_changes, write_changes};
 ghost use Rattle.stage_turns.specs.Clients.{IsKeptByOwner, MayRead, MayWrite, batchers_written, begin_events, read_outcome, reply_events, session_read, session_written, shown_in, top_in, write_events, write_outcome};
 
 use crate::{Session, TurnDone};
@@ -26,12 +27,14 @@ pub fn client_write(
     ensures batchers { OnOk result (batchers.new ≡ batchers_written session.old batchers.old) }
     ensures outcome { IfOk result (λ done. done.outcome ≡ write_outcome session.old) }
     ensures events { IfOk result (λ done. done.events ≡ write_events session.old) }
+    ensures changed { IfOk result (λ done. done.changed ≡ write_changes session.old) }
 {
     let mut events = Seq::new(batchers.alloc());
     if session.next().is_none() {
         return Ok(TurnDone {
             outcome: Outcome::Finished,
             events,
+            changed: false,
         });
     }
     let k = session.index();
@@ -39,6 +42,7 @@ pub fn client_write(
         return Ok(TurnDone {
             outcome: Outcome::Unacknowledged { k },
             events,
+            changed: false,
         });
     }
     let Some(draft) = session.draft()? else {
@@ -54,6 +58,7 @@ pub fn client_write(
     Ok(TurnDone {
         outcome: Outcome::Submitted { k },
         events,
+        changed: true,
     })
 }
 
@@ -75,11 +80,13 @@ pub fn client_read(
     ensures vectors { vectors.new ≡ vectors.old }
     ensures outcome { IfOk result (λ done. done.outcome ≡ read_outcome (top_in vectors.old first_maintainers s) session.old) }
     ensures events { IfOk result (λ done. done.events ≡ begin_events session.old ++ reply_events dc maintainers.old (top_in vectors.old first_maintainers s) session.old) }
+    ensures changed { IfOk result (λ done. done.changed ≡ read_changes (top_in vectors.old first_maintainers s) session.old) }
 {
     let vector = &vectors.as_slice()[(s % first_maintainers) as usize];
     let top = vector.head();
     let note = vector.tell()?;
     let k = session.index();
+    let goes_on = session.is_begun();
     let mut events = begin(s, session, maintainers.alloc())?;
     if top < session.floor() {
         let floor = session.floor();
@@ -90,6 +97,7 @@ pub fn client_read(
                 head: top,
             },
             events,
+            changed: !goes_on,
         });
     }
     let shown = shown_at(
@@ -109,6 +117,7 @@ pub fn client_read(
     Ok(TurnDone {
         outcome: Outcome::Replied { k },
         events,
+        changed: true,
     })
 }
 

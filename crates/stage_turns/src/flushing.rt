@@ -4,9 +4,11 @@ ghost use Rattle.causal_deps.specs.declared.record.Item.TheVariants.{External};
 ghost use Rattle.abstract_log.specs.declared.script.Outcome.TheVariants.{Flushed, PassedOn};
 ghost use Rattle.toid_filter.specs.Filters.{Fits, filter_at, with_item, with_record};
 ghost use Rattle.stage_world.specs.Turns.{flush_items, name_of, taken_by, unless_empty, way_of};
+ghost use Rattle.stage_turns.specs.Changing.{has_some};
 ghost use Rattle.stage_turns.specs.Flushing.{MayFlush, MayTake, taken_from, told_of};
 
 use crate::TurnDone;
+use crate::done::has_some;
 use abstract_log::{FlushItem, ItemName, Outcome, Way};
 use batcher::{Batcher, Parcel};
 use causal_deps::{Item, Record};
@@ -26,8 +28,10 @@ pub fn flush(
     ensures filters { OnOk result (filters.new ≡ fold (taken_by map.now) filters.old batcher.old) }
     ensures outcome { IfOk result (λ done. done.outcome ≡ unless_empty batcher.old (Flushed (flush_items map.now filters.old batcher.old))) }
     ensures events { IfOk result (λ done. done.events ≡ []) }
+    ensures changed { IfOk result (λ done. done.changed ≡ has_some batcher.old) }
 {
     let parcels = batcher.flush(map, filters.len() as u32)?;
+    let changed = has_some(&parcels);
     let mut items = Seq::new(filters.alloc());
     for parcel in parcels.into_vec() {
         hand_over(filters, parcel, &mut items)?;
@@ -35,6 +39,7 @@ pub fn flush(
     Ok(TurnDone {
         outcome: flushed(items),
         events: Seq::new(filters.alloc()),
+        changed,
     })
 }
 
@@ -116,13 +121,16 @@ pub fn pass(f: u32, filters: &mut Seq<Filter>, queue: &mut Queue) -> Result<Turn
     ensures queue { OnOk result (queue.new ≡ record queue.old { items = queue.old.items ++ (filter_at filters.old f).out }) }
     ensures outcome { IfOk result (λ done. done.outcome ≡ unless_empty (filter_at filters.old f).out (PassedOn (length (filter_at filters.old f).out))) }
     ensures events { IfOk result (λ done. done.events ≡ []) }
+    ensures changed { IfOk result (λ done. done.changed ≡ has_some (filter_at filters.old f).out) }
 {
     let items = filters.item_mut(f as usize).pass_on();
     let outcome = passed_on(&items);
+    let changed = has_some(&items);
     queue.push(items)?;
     Ok(TurnDone {
         outcome,
         events: Seq::new(filters.alloc()),
+        changed,
     })
 }
 

@@ -1,4 +1,4 @@
-ghost use Rattle.std.specs.Prelude.{◌≡◌, ℕ, ◌-◌, ◌<◌, ◌≤◌, ◌↔◌, length, IfOk, IsTrue, OnOk};
+ghost use Rattle.std.specs.Prelude.{◌≡◌, ℕ, ◌-◌, ◌<◌, ◌≤◌, ◌↔◌, nat_lt, length, IfOk, IsTrue, OnOk};
 ghost use Rattle.std.specs.Option.{ForSome};
 ghost use Rattle.causal_deps.specs.Counts.{raised_row, row_of};
 ghost use Rattle.abstract_log.specs.declared.script.Outcome.TheVariants.{Learnt as LearntRow};
@@ -33,6 +33,7 @@ pub fn learn(
     ensures learnt { OnOk result (learnt.new ≡ learnable_by vector.old learnt.old) }
     ensures outcome { IfOk result (λ done. done.outcome ≡ LearntRow (row_of table.new.table dc)) }
     ensures events { IfOk result (λ done. done.events ≡ row_events dc (row_of table.old.table dc) (row_learnt dc maintainers.old vector.old table.old.table learnt.old)) }
+    ensures changed { IfOk result (λ done. done.changed ≡ nat_lt learnt.old (learnable_by vector.old learnt.old)) }
 {
     let note = vector.tell()?;
     let upto = vector.head().max(*learnt);
@@ -40,12 +41,14 @@ pub fn learn(
     let row = counted(&note.epochs, maintainers.as_slice(), before, *learnt, upto);
     let events = learn_events(maintainers.alloc(), dc, &before, &row)?;
     table.learn(&row);
+    let changed = *learnt < upto;
     *learnt = upto;
     Ok(TurnDone {
         outcome: Outcome::Learnt {
             row: own_row(table),
         },
         events,
+        changed,
     })
 }
 

@@ -4,9 +4,11 @@ ghost use Rattle.maintainer.specs.Maintainers.{learned, moved_in, plain};
 ghost use Rattle.token_queue.specs.Queues.{outbox_for, without_outbox};
 ghost use Rattle.stage_world.specs.Stages.{slot_of};
 ghost use Rattle.stage_world.specs.Turns.{unless_empty};
+ghost use Rattle.stage_turns.specs.Changing.{has_some};
 ghost use Rattle.stage_turns.specs.Placing.{MayPlaceAll, MayPlaceFrom, lid_of};
 
 use crate::TurnDone;
+use crate::done::has_some;
 use abstract_log::Outcome;
 use causal_deps::Record;
 use cz_base::{Lid, NoMemory, Seq};
@@ -26,16 +28,19 @@ pub fn place(
     ensures maintainer { OnOk result (plain maintainer.new ≡ moved_in (learned (plain maintainer.old) queue.old.epochs) (map slot_of (outbox_for queue.old m))) }
     ensures outcome { IfOk result (λ done. done.outcome ≡ unless_empty (outbox_for queue.old m) (PlacedAt (map lid_of (outbox_for queue.old m)))) }
     ensures events { IfOk result (λ done. done.events ≡ []) }
+    ensures changed { IfOk result (λ done. done.changed ≡ has_some (outbox_for queue.old m)) }
 {
     maintainer.learn(queue.epochs())?;
     let entries = queue.take_out(m);
     let lids = lids_of(&entries)?;
     maintainer.reserve(entries.len())?;
     let events = Seq::new(entries.alloc());
+    let changed = has_some(&entries);
     place_each(maintainer, entries);
     Ok(TurnDone {
         outcome: placed_at(lids),
         events,
+        changed,
     })
 }
 

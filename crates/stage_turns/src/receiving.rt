@@ -1,14 +1,16 @@
 ghost use Rattle.std.specs.Prelude.{◌≡◌, ◌≤◌, ◌%◌, ◌++◌, [], ◌∷◌, length, map, slice_set, IfOk, OnOk};
-ghost use Rattle.causal_deps.specs.Counts.{greater_rows};
+ghost use Rattle.causal_deps.specs.Counts.{greater_rows, IsSquare};
 ghost use Rattle.causal_deps.specs.declared.record.Item.TheVariants.{External};
 ghost use Rattle.abstract_log.specs.declared.event.Event.TheVariants.{Receive};
 ghost use Rattle.record_codec.specs.declared.message.Message.{Message as MessageValue};
 ghost use Rattle.record_codec.specs.Wire.{SpellsMessage};
 ghost use Rattle.stage_world.specs.Stages.{batcher_at};
 ghost use Rattle.stage_world.specs.MoreTurns.{names_of, received_outcome};
+ghost use Rattle.stage_turns.specs.Changing.{TellsNews};
 ghost use Rattle.stage_turns.specs.Told.{IsToldBy};
 
 use crate::TurnDone;
+use crate::done::has_some;
 use abstract_log::{Event, Outcome};
 use awareness_table::Aware;
 use batcher::Batcher;
@@ -35,20 +37,28 @@ pub fn deliver(
     ensures batchers { (m : MessageValue) → SpellsMessage (length table.old.table) packet.now m → OnOk result (let b = r % length batchers.old in batchers.new ≡ slice_set batchers.old b (batcher_at batchers.old b ++ map External m.records)) }
     ensures outcome { (m : MessageValue) → SpellsMessage (length table.old.table) packet.now m → IfOk result (λ done. done.outcome ≡ received_outcome (names_of m.records)) }
     ensures events { (m : MessageValue) → SpellsMessage (length table.old.table) packet.now m → IfOk result (λ done. done.events ≡ Receive dc m.from m.table (names_of m.records) ∷ []) }
+    ensures changed { (m : MessageValue) → SpellsMessage (length table.old.table) packet.now m → IfOk result (λ done. TellsNews done.changed table.old.table m) }
 {
     let message = message_in(batchers.alloc(), packet, table)?;
     let outcome = outcome_of(names_of(&message.records)?);
     let events = events_of(dc, from, &message)?;
     let b = r as usize % batchers.len();
+    let brings_records = has_some(&message.records);
+    let raises_counts = !table.table().covers(&message.table);
     take_records(batchers.item_mut(b), message.records)?;
     table.merge(&message.table);
-    Ok(TurnDone { outcome, events })
+    Ok(TurnDone {
+        outcome,
+        events,
+        changed: brings_records || raises_counts,
+    })
 }
 
 /// The message that the packet spells.
 pub(crate) fn message_in(alloc: Global, packet: &Packet, table: &Aware) -> Result<Message, NoMemory>
     requires { (m : MessageValue) × SpellsMessage (length table.now.table) packet.now m }
     ensures is { (m : MessageValue) → SpellsMessage (length table.now.table) packet.now m → IfOk result (λ found. found ≡ m) }
+    ensures square { IsSquare (length table.now.table) table.now.table }
 {
     match receive(alloc, packet.as_bytes(), table.table().dcs()) {
         Ok(message) => Ok(message),

@@ -1,5 +1,5 @@
 //! The token goes from queue to queue.
-ghost use Rattle.std.specs.Prelude.{◌≡◌, [], position, is_some, IfOk};
+ghost use Rattle.std.specs.Prelude.{◌≡◌, [], length, nat_lt, position, is_some, IfOk};
 ghost use Rattle.token_queue.specs.Queues.{QueueState};
 ghost use Rattle.abstract_log.specs.declared.script.Outcome.TheVariants.{At};
 ghost use Rattle.stage_turns.specs.Lent.{HaveToken, MayMoveToken, has_token, queues_seen, token_at_next, token_seen};
@@ -17,6 +17,7 @@ pub fn token(queues: &mut Seq<Queue>) -> Result<TurnDone, NoMemory>
     ensures holder { HaveToken queues.new (token_at_next (token_seen queues.old)) }
     ensures outcome { IfOk result (λ done. done.outcome ≡ At (token_at_next (token_seen queues.old)).at) }
     ensures events { IfOk result (λ done. done.events ≡ []) }
+    ensures changed { IfOk result (λ done. done.changed ≡ nat_lt 1 (length queues.old)) }
 {
     let at = holder(queues);
     let Some(token) = queues.item_mut(at).give() else {
@@ -27,6 +28,7 @@ pub fn token(queues: &mut Seq<Queue>) -> Result<TurnDone, NoMemory>
     Ok(TurnDone {
         outcome: Outcome::At { queue: next },
         events: Seq::new(queues.alloc()),
+        changed: queues.len() > 1,
     })
 }
 

@@ -38,6 +38,7 @@ pub fn send(
     ensures packet { IfOk result (λ sent. SpellsMessage (length table.now.table) sent.packet (told_by sender.old.dc to k senders maintainers.now table.now.table)) }
     ensures outcome { IfOk result (λ sent. sent.done.outcome ≡ Sent (names_of (told_by sender.old.dc to k senders maintainers.now table.now.table).records) 0 false) }
     ensures events { IfOk result (λ sent. sent.done.events ≡ []) }
+    ensures changed { IfOk result (λ sent. sent.done.changed ≡ false) }
     ensures sender { sender.new ≡ sender.old }
 {
     let stock = SenderStock {
@@ -57,6 +58,7 @@ pub fn send(
     let done = TurnDone {
         outcome,
         events: Seq::new(alloc),
+        changed: false,
     };
     Ok(SendDone { done, packet })
 }

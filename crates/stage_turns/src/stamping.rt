@@ -4,8 +4,10 @@ ghost use Rattle.std.specs.Option.{ForSome};
 ghost use Rattle.abstract_log.specs.declared.script.Outcome.TheVariants.{Empty, Stamped};
 ghost use Rattle.token_queue.specs.declared.entry.Stamp.{Stamp as StampState};
 ghost use Rattle.stage_world.specs.Stages.{Session as SessionState};
+ghost use Rattle.stage_turns.specs.Changing.{stamp_changes};
 ghost use Rattle.stage_turns.specs.Stamping.{CanAck, MayStamp, acked_by, event_of, events_stamped, items_of, outcome_stamped, queue_stamped, sessions_stamped};
 
+use crate::done::has_some;
 use crate::{Session, TurnDone};
 use abstract_log::{Event, Outcome};
 use causal_deps::Place;
@@ -20,18 +22,26 @@ pub fn stamp(dc: DcId, queue: &mut Queue, sessions: &mut Seq<Session>) -> Result
     ensures sessions { OnOk result (sessions.new ≡ sessions_stamped queue.old sessions.old) }
     ensures outcome { IfOk result (λ done. done.outcome ≡ outcome_stamped queue.old) }
     ensures events { IfOk result (λ done. done.events ≡ events_stamped dc queue.old) }
+    ensures changed { IfOk result (λ done. done.changed ≡ stamp_changes queue.old) }
 {
     let idle = is_idle(queue);
+    let has_items = !queue.is_empty();
     match queue.stamp() {
         Ok(stamps) => {
+            let has_stamped = has_some(&stamps);
             let events = events_of(dc, &stamps)?;
             let outcome = outcome_of(idle, &stamps, deferred_at(queue))?;
             acknowledge_all(dc, stamps.as_slice(), sessions);
-            Ok(TurnDone { outcome, events })
+            Ok(TurnDone {
+                outcome,
+                events,
+                changed: has_items || has_stamped,
+            })
         }
         Err(StampFault::NoToken) => Ok(TurnDone {
             outcome: Outcome::NoToken,
             events: Seq::new(sessions.alloc()),
+            changed: false,
         }),
         Err(StampFault::NoMemory) => Err(NoMemory),
     }

@@ -34,7 +34,7 @@ module _ (d i : ℕ) (z : Datacentre) (old : List DatacentreState) (item : Datac
   pub item_is : item ≡ at d z
   item_is = here ∙ ap (λ j. get_or old j item) same ∙ seen.is item
 
-  pub turned_ok : {E : Type 0} (turned : Turned) (r : Result TurnDone E) (new : DatacentreState) → TakesTurn d turned r new → IfOk r (HasTurned d turned old (set old i new))
+  pub turned_ok : {E : Type 0} (turned : Turned) (r : Result TurnDone E) (new : DatacentreState) → TakesTurn d z turned r new → IfOk r (HasTurned d turned old (set old i new))
   turned_ok turned (Ok done) new took = record {
     datacentres = ap (λ j. set old j new) same ∙ ap (set old d) took.state;
     outcome = took.outcome;
@@ -42,9 +42,9 @@ module _ (d i : ℕ) (z : Datacentre) (old : List DatacentreState) (item : Datac
   }
   turned_ok turned (Err e) new took = tt
 
-  pub taken_ok : {E : Type 0} (step : Step) (r : Result TurnDone E) (new : DatacentreState) → ForSome item.stages (λ x. TakesTurn item.dc (turn_of item.dc x step) r new)
+  pub taken_ok : {E : Type 0} (step : Step) (r : Result TurnDone E) (new : DatacentreState) → ForSome item.stages (λ x. TakesTurn item.dc x (turn_of item.dc x step) r new)
       → IfOk r (HasTurned d (turn_of d z step) old (set old i new))
-  taken_ok step r new f = turned_ok (turn_of d z step) r new (subst (λ (s : DatacentreState). ForSome s.stages (λ x. TakesTurn s.dc (turn_of s.dc x step) r new)) item_is f z refl)
+  taken_ok step r new f = turned_ok (turn_of d z step) r new (subst (λ (s : DatacentreState). ForSome s.stages (λ x. TakesTurn s.dc x (turn_of s.dc x step) r new)) item_is f z refl)
 
   -- a state that is put in its own place
   put_back : (new : DatacentreState) → new ≡ at d z → set old i new ≡ old
@@ -63,11 +63,11 @@ module _ (d i : ℕ) (z : Datacentre) (old : List DatacentreState) (item : Datac
   sent_ok k e r new f = sent_with k e r new (subst (λ (s : DatacentreState). ForSome s.stages (λ x. Sends s.dc x k e r new)) item_is f z refl)
 
   pub received_ok : {E : Type 0} (a : ℕ) (packet : List ℕ) (m : Message) (r : Result TurnDone E) (new : DatacentreState)
-      → ForSome item.stages (λ x. (n : Message) → SpellsMessage (length x.table) packet n → TakesTurn item.dc (receive_turn item.dc x a n) r new) → SpellsMessage (length z.table) packet m
+      → ForSome item.stages (λ x. (n : Message) → SpellsMessage (length x.table) packet n → TakesTurn item.dc x (receive_turn item.dc x a n) r new) → SpellsMessage (length z.table) packet m
       → IfOk r (HasTurned d (receive_turn d z a m) old (set old i new))
   received_ok a packet m r new f spelled =
       turned_ok (receive_turn d z a m) r new
-      (subst (λ (s : DatacentreState). ForSome s.stages (λ x. (n : Message) → SpellsMessage (length x.table) packet n → TakesTurn s.dc (receive_turn s.dc x a n) r new)) item_is f z refl m spelled)
+      (subst (λ (s : DatacentreState). ForSome s.stages (λ x. (n : Message) → SpellsMessage (length x.table) packet n → TakesTurn s.dc x (receive_turn s.dc x a n) r new)) item_is f z refl m spelled)
 
   pub has_receiver_is : (a : ℕ) (sizes : Sizes) → ForSome item.stages (λ x. sizes ≡ sizes_of x) → ltb a sizes.receivers ≡ ltb a z.receivers
   has_receiver_is a sizes f = ap (λ (s : Sizes). ltb a s.receivers) (subst (λ (s : DatacentreState). ForSome s.stages (λ x. sizes ≡ sizes_of x)) item_is f z refl)

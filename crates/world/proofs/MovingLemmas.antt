@@ -310,7 +310,7 @@ pub may_ask : (load : Workload) (step : Step) (z : Stages) (old : Sites) (d : �
 may_ask load step z old d may within = (datacentre_at z d, seen_at load.dcs z old d may.shown within, log_there load step z old may d within)
 
 -- the receiver is not there
-pub deliver_absent : (load : Workload) (z : Stages) (old : Sites) (d e k r : ℕ) (done : TurnDone) → Shows load.dcs z old → ltb r (datacentre_at z e).receivers ≡ false → done ≡ record { outcome = Absent; events = [] }
+pub deliver_absent : (load : Workload) (z : Stages) (old : Sites) (d e k r : ℕ) (done : TurnDone) → Shows load.dcs z old → ltb r (datacentre_at z e).receivers ≡ false → done ≡ record { outcome = Absent; events = []; changed = false }
     → HasMoved load.dcs (step_of load z (Deliver d e k r)) old done
 deliver_absent load z old d e k r done h none is =
     subst (λ m. HasMoved load.dcs m old done) (sym (cond-false (ltb r (datacentre_at z e).receivers) (deliver_turn z d e k r) (still Absent z) none))
@@ -318,7 +318,7 @@ deliver_absent load z old d e k r done h none is =
 
 -- there is no such message
 deliver_none : (dcs : ℕ) (z : Stages) (old new : Sites) (d e k r : ℕ) (done : TurnDone) (o : Option Message) → message_at (link_at z d e) k ≡ o → None ≡ option_map (message_bytes dcs) o → Shows dcs z old
-    → new.datacentres ≡ old.datacentres → new.links ≡ with_packets old.links d e (packets_of dcs (without (link_at z d e) k)) → done ≡ record { outcome = Absent; events = [] }
+    → new.datacentres ≡ old.datacentres → new.links ≡ with_packets old.links d e (packets_of dcs (without (link_at z d e) k)) → done ≡ record { outcome = Absent; events = []; changed = false }
     → HasMoved dcs (option_map_or (λ m. moved_at (with_link z d e (without (link_at z d e) k)) e (receive_turn e (datacentre_at z e) r m)) o (still Absent z)) new done
 deliver_none dcs z old new d e k r done None none empty h datacentres links is =
     still_moves dcs z old new Absent done h datacentres
@@ -327,7 +327,7 @@ deliver_none dcs z old new d e k r done None none empty h datacentres links is =
 deliver_none dcs z old new d e k r done (Some m) some empty h datacentres links is = absurd (cc)
 
 pub deliver_empty : (load : Workload) (z : Stages) (old new : Sites) (d e k r : ℕ) (done : TurnDone) → Shows load.dcs z old → ltb r (datacentre_at z e).receivers ≡ true → None ≡ message_at (packets_at old.links d e) k
-    → new.datacentres ≡ old.datacentres → new.links ≡ with_packets old.links d e (without (packets_at old.links d e) k) → done ≡ record { outcome = Absent; events = [] }
+    → new.datacentres ≡ old.datacentres → new.links ≡ with_packets old.links d e (without (packets_at old.links d e) k) → done ≡ record { outcome = Absent; events = []; changed = false }
     → HasMoved load.dcs (step_of load z (Deliver d e k r)) new done
 deliver_empty load z old new d e k r done h there empty datacentres links is =
     subst (λ m. HasMoved load.dcs m new done) (sym (cond-true (ltb r (datacentre_at z e).receivers) (deliver_turn z d e k r) (still Absent z) there))

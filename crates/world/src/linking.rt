@@ -37,13 +37,22 @@ fn in_link(done: TurnDone, link: u32, lost: bool) -> TurnDone
     ensures outcome { (names : List (ℕ × ℕ)) → done.outcome ≡ Sent names 0 false → result.outcome ≡ Sent names link lost }
     ensures events { result.events ≡ done.events }
 {
-    let TurnDone { outcome, events } = done;
+    let TurnDone {
+        outcome,
+        events,
+        changed,
+    } = done;
     match outcome {
         Outcome::Sent { names, .. } => TurnDone {
             outcome: Outcome::Sent { names, link, lost },
             events,
+            changed: true,
         },
-        outcome => TurnDone { outcome, events },
+        outcome => TurnDone {
+            outcome,
+            events,
+            changed,
+        },
     }
 }
 
@@ -55,10 +64,11 @@ pub(crate) fn lose_packet(links: &mut Seq<Seq<Link>>, d: DcId, e: DcId, k: u32) 
     ensures events { result.events ≡ [] }
 {
     let alloc = links.alloc();
-    let lost = take_out(links, d, e, k);
+    let found = take_out(links, d, e, k).is_some();
     TurnDone {
-        outcome: lost_or_absent(lost.is_some()),
+        outcome: lost_or_absent(found),
         events: Seq::new(alloc),
+        changed: found,
     }
 }
 
@@ -82,9 +92,11 @@ pub(crate) fn copy_packet(
 {
     let alloc = links.alloc();
     let answer = copy(links, d, e, k)?;
+    let changed = !matches!(answer, Copied::Absent);
     Ok(TurnDone {
         outcome: answered_to_copy(answer, packets_in(links, d, e)),
         events: Seq::new(alloc),
+        changed,
     })
 }
 

@@ -101,11 +101,12 @@ impl Sites {
 
     // What is answered where something is not there.
     fn absent(&self) -> TurnDone
-        ensures { result ≡ record { outcome = Absent; events = [] } }
+        ensures { result ≡ record { outcome = Absent; events = []; changed = false } }
     {
         TurnDone {
             outcome: Outcome::Absent,
             events: Seq::new(self.links.alloc()),
+            changed: false,
         }
     }
 }

@@ -1,5 +1,7 @@
 use Rattle.std.proofs.Common.{rules, arith, ap, ◌∙◌, List, length}
 use Rattle.batcher.specs.declared.Parcel.{Parcel}
+use Rattle.stage_turns.specs.Changing.{has_some}
+use Rattle.stage_turns.proofs.ChangeLemmas.{has_some-map}
 use Rattle.stage_turns.proofs.Flushes.{all_gone, first_may, have_numbers, may_start, one_gone}
 use Rattle.stage_turns.proofs.flushing.flush.Goals as goal
 
@@ -36,3 +38,6 @@ returns-clause-filters c = (all_gone _ _ _ _ _ _ _ _ c.len.ensures (c.into_iter-
 
 pub returns-clause-outcome : goal.returns-clause-outcome
 returns-clause-outcome c = c.flushed.ensures ∙ (all_gone _ _ _ _ _ _ _ _ c.len.ensures (c.into_iter-parcel-iterator.ensures.into_iter_gives.0 ∙ c.into_vec-parcel-items.ensures ∙ c.in_ok-parcels.ensures.ok) (omega (arith, c.in-None.ensures.steps.0, c.loop-parcel.invariant.len)) c.loop-parcel.invariant.going).outcome
+
+pub returns-clause-changed : goal.returns-clause-changed
+returns-clause-changed c = c.has_some-changed.ensures ∙ ap (λ (ps : List Parcel). has_some ps) c.in_ok-parcels.ensures.ok ∙ has_some-map _ c.args.batcher.now
