@@ -5,6 +5,7 @@ pub mod OpeningLemmas
 pub mod SiteLemmas
 pub mod TakingLemmas
 pub mod MovingLemmas
+pub mod IdleLemmas
 pub mod RoundLemmas
 pub mod KnownLemmas
 pub mod RoundIs

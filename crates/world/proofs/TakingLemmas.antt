@@ -15,13 +15,14 @@ use Rattle.log_laws.proofs.LimitedRuns.{laws_of_run, workload_is}
 use Rattle.stage_world.specs.Stages.{Stages}
 use Rattle.stage_world.specs.Opening.{opening}
 use Rattle.stage_world.specs.Schedules.{IsStep, after_steps, events_of, step_of}
+use Rattle.stage_world.specs.Idle.{IsIdleTurn}
 use Rattle.stage_world.specs.Whole.{StandsFor}
 use Rattle.stage_world.proofs.AllTurns.{schedule}
 use Rattle.stage_turns.specs.declared.done.TurnDone.{TurnDone}
 use Rattle.world.specs.declared.sites.Sites.{Sites}
 use Rattle.world.specs.declared.stages.Played.{Played}
-use Rattle.world.specs.Showing.{AreBuilt, HasMoved, IsBuiltStep, MayStep, Shows}
-use Rattle.world.specs.Taking.{AreLines, HasTaken, IsBefore, IsIdle, IsPlayed, IsTaken, StagesState, Taken, events_after, line_of, stages_after, steps_of}
+use Rattle.world.specs.Showing.{AreBuilt, HasMoved, IsBuiltStep, MayStep, Shows, TellsIdle}
+use Rattle.world.specs.Taking.{AreLines, HasTaken, IsBefore, IsPlayed, IsTaken, StagesState, Taken, events_after, line_of, lines_told, stages_after, steps_of}
 
 pub after_push : (load : Workload) (z : Stages) (ts : List Step) (t : Step) → after_steps load z (ts ++ t ∷ []) ≡ (step_of load (after_steps load z ts) t).after
 after_push load z [] t = refl
@@ -39,15 +40,23 @@ before_push idle line rest lines more before = elim before [
   | inr left ↦ inr (ap (λ ls. ls ++ more) left.0, left.1, left.2)
 ]
 
-pub lines_push : (idle : Workload → Stages → Step → Type 0) (load : Workload) (z : Stages) (ts : List Taken) (t : Taken) (lines more : List StageLine) → AreLines idle load z ts lines
-    → IsBefore (idle load (after_steps load z (steps_of ts)) t.step) (line_of load (after_steps load z (steps_of ts)) t) [] more → AreLines idle load z (ts ++ t ∷ []) (lines ++ more)
-lines_push idle load z [] t lines more are before = ([], subst (λ ls. IsBefore (idle load z t.step) (line_of load z t) [] (ls ++ more)) (sym are) before, refl)
-lines_push idle load z (s ∷ ts) t lines more are before =
-    (are.0 ++ more, before_push (idle load z s.step) (line_of load z s) are.0 lines more are.1, lines_push idle load (step_of load z s.step).after ts t are.0 more are.2 before)
+pub lines_push : (load : Workload) (z : Stages) (ts : List Taken) (t : Taken) (lines more : List StageLine) → AreLines load z ts lines
+    → IsBefore (IsIdleTurn load (after_steps load z (steps_of ts)) t.step) (line_of load (after_steps load z (steps_of ts)) t) [] more → AreLines load z (ts ++ t ∷ []) (lines ++ more)
+lines_push load z [] t lines more are before = ([], subst (λ ls. IsBefore (IsIdleTurn load z t.step) (line_of load z t) [] (ls ++ more)) (sym are) before, refl)
+lines_push load z (s ∷ ts) t lines more are before =
+    (are.0 ++ more, before_push (IsIdleTurn load z s.step) (line_of load z s) are.0 lines more are.1, lines_push load (step_of load z s.step).after ts t are.0 more are.2 before)
 
 -- what a turn writes: its line, or none where it is left out
 abbrev pub Wrote : Workload → Stages → Step → Bool → Outcome → List StageLine → Type 0
-Wrote load z step settling outcome more = IsBefore (IsIdle load z step) (record { step = step; outcome = outcome; settling = settling }) [] more
+Wrote load z step settling outcome more = IsBefore (IsIdleTurn load z step) (record { step = step; outcome = outcome; settling = settling }) [] more
+
+-- the line is left out exactly where the turn is one of settling and changed nothing
+pub wrote_if : (load : Workload) (z : Stages) (step : Step) (settling changed : Bool) (outcome : Outcome) → TellsIdle load z step changed
+    → Wrote load z step settling outcome (lines_told step outcome settling changed)
+wrote_if load z step false false outcome tells = inl (refl, λ s i. absurd (cc))
+wrote_if load z step false true outcome tells = inl (refl, λ s i. absurd (cc))
+wrote_if load z step true true outcome tells = inl (refl, λ s i. tells.other refl i)
+wrote_if load z step true false outcome tells = inr (refl, refl, tells.idle refl)
 
 -- Stages that have taken turns stand for the world of their run.
 
@@ -109,7 +118,7 @@ module _ (s : StagesState) (step : Step) (settling : Bool) (sites : Sites) (done
         shown = subst (λ y. Shows load.dcs y sites) (sym (ap (after_steps load z) steps ∙ after_push load z (steps_of ts) step)) here.shown;
         events = ap₂ (λ (a : List Event) (b : List Event). a ++ b) h.events here.events ∙ sym (ap (events_of load z) steps ∙ events_push load z (steps_of ts) step);
         lines =
-            lines_push IsIdle load z ts t s.lines more h.lines
+            lines_push load z ts t s.lines more h.lines
             (subst (λ (o : Outcome). Wrote load now step settling o more) here.outcome wrote);
       }
 
@@ -127,7 +136,7 @@ played script ts s result h workload events lines =
     record {
       workload = workload ∙ h.workload;
       events = is;
-      lines = subst (AreLines IsIdle script.workload (opening script) ts) (sym lines) h.lines;
+      lines = subst (AreLines script.workload (opening script) ts) (sym lines) h.lines;
       is_run = subst (IsRun script.workload) (sym is) run.0;
       stands = subst (λ es. StandsFor (world_of script.workload es) (stages_after script ts)) (sym is) run.1;
     }

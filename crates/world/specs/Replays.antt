@@ -7,7 +7,7 @@ use Rattle.stage_world.specs.Opening.{opening}
 use Rattle.stage_world.specs.Schedules.{after_steps}
 use Rattle.stage_world.specs.Settling.{IsSettlingUpTo}
 use Rattle.world.specs.declared.stages.Played.{Played}
-use Rattle.world.specs.Taking.{AreLines, IsIdle, Taken, events_after, settled, taken_of}
+use Rattle.world.specs.Taking.{AreLines, Taken, events_after, settled, taken_of}
 
 -- The turns of a script: its own steps, and then those of settling.
 abbrev pub turns_of : Script → List Step → List Taken
@@ -20,6 +20,6 @@ pub record IsReplayed (script : Script) (played : Played) : Type 0 where
   pub settles : IsSettlingUpTo 524288 script.workload (after_steps script.workload (opening script) script.steps) settling
   pub workload : played.run.workload ≡ script.workload
   pub events : played.run.events ≡ events_after script (turns_of script settling)
-  pub lines : AreLines IsIdle script.workload (opening script) (turns_of script settling) played.stages
+  pub lines : AreLines script.workload (opening script) (turns_of script settling) played.stages
   pub is_run : IsRun script.workload played.run.events
   pub finished : IsFinished (world_of script.workload played.run.events)

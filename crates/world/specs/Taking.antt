@@ -1,7 +1,8 @@
 -- The turns that all stages have taken since a script opened them.
-use Rattle.std.specs.Prelude.{◌≡◌, ◌⊎◌, Bool, true, false, List, [], ◌∷◌, ◌++◌, map, All}
+use Rattle.std.specs.Prelude.{◌≡◌, ◌⊎◌, ◌||◌, Bool, true, false, not, if◌then◌else◌, List, [], ◌∷◌, ◌++◌, map, All}
 use Rattle.abstract_log.specs.declared.command.Workload.{Workload}
 use Rattle.abstract_log.specs.declared.event.Event.{Event}
+use Rattle.abstract_log.specs.declared.script.Outcome.{Outcome}
 use Rattle.abstract_log.specs.declared.script.Script.{Script}
 use Rattle.abstract_log.specs.declared.script.StageLine.{StageLine}
 use Rattle.abstract_log.specs.declared.script.Step.{Step}
@@ -10,6 +11,7 @@ use Rattle.abstract_log.specs.Runs.{IsRun, world_of}
 use Rattle.stage_world.specs.Stages.{Stages}
 use Rattle.stage_world.specs.Opening.{opening}
 use Rattle.stage_world.specs.Schedules.{IsStep, after_steps, events_of, step_of}
+use Rattle.stage_world.specs.Idle.{IsIdleTurn}
 use Rattle.stage_world.specs.Whole.{StandsFor}
 use Rattle.world.specs.declared.sites.Sites.{Sites}
 use Rattle.world.specs.declared.stages.Played.{Played}
@@ -40,15 +42,15 @@ IsBefore idle line more lines =
     ((lines ≡ line ∷ more) × (line.settling ≡ true → idle → ⊥))
     ⊎ ((lines ≡ more) × (line.settling ≡ true) × idle)
 
--- The stage lines of turns from stages z on: one for each turn, but for those of settling that are idle.
-abbrev pub AreLines : (Workload → Stages → Step → Type 0) → Workload → Stages → List Taken → List StageLine → Type 0
-AreLines idle load z [] lines = lines ≡ []
-AreLines idle load z (t ∷ ts) lines =
-    (more : List StageLine) × IsBefore (idle load z t.step) (line_of load z t) more lines × AreLines idle load (step_of load z t.step).after ts more
+-- what is written of a turn: its line, or nothing where it is one of settling and changed nothing
+abbrev pub lines_told : Step → Outcome → Bool → Bool → List StageLine
+lines_told step outcome settling changed = if changed || not settling then record { step = step; outcome = outcome; settling = settling } ∷ [] else []
 
--- No turn counts as idle so far.
-abbrev pub IsIdle : Workload → Stages → Step → Type 0
-IsIdle load z step = ⊥
+-- The stage lines of turns from stages z on: one for each turn, but for those of settling that are idle.
+abbrev pub AreLines : Workload → Stages → List Taken → List StageLine → Type 0
+AreLines load z [] lines = lines ≡ []
+AreLines load z (t ∷ ts) lines =
+    (more : List StageLine) × IsBefore (IsIdleTurn load z t.step) (line_of load z t) more lines × AreLines load (step_of load z t.step).after ts more
 
 -- the stages after turns, and their events
 abbrev pub stages_after : Script → List Taken → Stages
@@ -74,7 +76,7 @@ pub record HasTaken (script : Script) (ts : List Taken) (s : StagesState) : Type
   pub workload : s.workload ≡ script.workload
   pub shown : Shows script.workload.dcs (stages_after script ts) s.sites
   pub events : s.events ≡ events_after script ts
-  pub lines : AreLines IsIdle script.workload (opening script) ts s.lines
+  pub lines : AreLines script.workload (opening script) ts s.lines
 
 -- These are stages that some script opens, after some turns.
 pub record IsTaken (s : StagesState) : Type 0 where
@@ -87,6 +89,6 @@ pub record IsTaken (s : StagesState) : Type 0 where
 pub record IsPlayed (script : Script) (ts : List Taken) (played : Played) : Type 0 where
   pub workload : played.run.workload ≡ script.workload
   pub events : played.run.events ≡ events_after script ts
-  pub lines : AreLines IsIdle script.workload (opening script) ts played.stages
+  pub lines : AreLines script.workload (opening script) ts played.stages
   pub is_run : IsRun script.workload played.run.events
   pub stands : StandsFor (world_of script.workload played.run.events) (stages_after script ts)

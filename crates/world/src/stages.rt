@@ -4,11 +4,12 @@ ghost use Rattle.abstract_log.specs.Fits.{FitsScript};
 ghost use Rattle.abstract_log.specs.Runs.{IsFinished, IsRun, world_of};
 ghost use Rattle.stage_world.specs.Schedules.{IsStep};
 ghost use Rattle.world.specs.Showing.{AreBuilt, IsBuiltStep};
+ghost use Rattle.world.specs.Taking.{lines_told};
 
 use crate::looks::is_unfinished;
 use crate::opening::open_sites;
 use crate::sites::Sites;
-use abstract_log::{Event, Run, Script, StageLine, StageLog, Step, Workload};
+use abstract_log::{Event, Outcome, Run, Script, StageLine, StageLog, Step, Workload};
 use cz_base::{NoMemory, Seq};
 use std::alloc::Global;
 use std::marker::Model;
@@ -77,7 +78,7 @@ impl Stages {
         self.take(step, false)
     }
 
-    // Takes one turn, and writes its line and its events.
+    // Takes one turn, and writes its line and its events; an idle turn of settling has no line.
     pub(crate) fn take(&mut self, step: &Step, settling: bool) -> Result<(), NoMemory>
         requires step { IsStep self.old.workload step.now }
         requires built { IsBuiltStep step.now }
@@ -92,11 +93,7 @@ impl Stages {
         }
         self.failed = true;
         let done = self.sites.step(&self.workload, step)?;
-        self.lines.push(StageLine {
-            step: *step,
-            outcome: done.outcome,
-            settling,
-        })?;
+        write_line(&mut self.lines, step, done.outcome, settling, done.changed)?;
         self.events.append(done.events)?;
         self.failed = false;
         Ok(())
@@ -126,4 +123,24 @@ impl Stages {
             stages: lines,
         }
     }
+}
+
+// Writes the line of a turn, but for one of settling that changed nothing.
+fn write_line(
+    lines: &mut StageLog,
+    step: &Step,
+    outcome: Outcome,
+    settling: bool,
+    changed: bool,
+) -> Result<(), NoMemory>
+    ensures { OnOk result (lines.new ≡ lines.old ++ lines_told step.now outcome settling changed) }
+{
+    if changed || !settling {
+        lines.push(StageLine {
+            step: *step,
+            outcome,
+            settling,
+        })?;
+    }
+    Ok(())
 }
