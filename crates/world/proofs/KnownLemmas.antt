@@ -4,17 +4,19 @@ use Rattle.std.specs.List.{list_all, list_any}
 use Rattle.std.proofs.lemmas.Bool.Decides.{Decides-ltb}
 use Rattle.std.proofs.lemmas.List.Folds.{list_all_at, list_all_more, list_any_at, list_any_more}
 use Rattle.std.specs.Option.{ForSome}
+use Rattle.abstract_log.specs.declared.command.Workload.{Workload}
 use Rattle.abstract_log.specs.declared.script.Script.{Script}
 use Rattle.abstract_log.specs.Fits.{FitsLimits}
 use Rattle.abstract_log.specs.Runs.{world_of}
 use Rattle.log_laws.proofs.LimitedRuns.{laws_of_run}
-use Rattle.stage_world.specs.Stages.{Datacentre, Stages}
+use Rattle.abstract_log.specs.declared.script.Sizes.{Sizes}
+use Rattle.stage_world.specs.Stages.{Datacentre, Stages, sizes_of}
 use Rattle.stage_world.specs.Whole.{datacentre_at, nowhere_at}
 use Rattle.stage_world.specs.MoreTurns.{message_of, same_counts}
 use Rattle.stage_world.specs.Settling.{has_unanswered}
 use Rattle.datacentre.specs.Seen.{DatacentreState, StandsForALog}
 use Rattle.stage_turns.specs.Clients.{is_unanswered}
-use Rattle.world.specs.Settled.{AreKnown, IsKnown}
+use Rattle.world.specs.Settled.{AreKnown, IsKnown, errands_from}
 use Rattle.world.specs.Showing.{states_from}
 use Rattle.world.specs.Taking.{HasTaken, IsTaken, StagesState, Taken, stages_after}
 use Rattle.world.proofs.SiteLemmas.{length-states, states_at}
@@ -141,3 +143,17 @@ module _ (z : Stages) (xs : List DatacentreState) (known : AreKnown z xs) (d i :
   more_letter k to b f =
       some_if b (message_of d (datacentre_at z d) k to).records
       (subst (λ (s : DatacentreState). ForSome s.stages (λ y. IsTrue b ↔ ((message_of s.dc y k to).records ≢ []))) lettered.is f (datacentre_at z d) refl)
+
+-- what its senders have to do
+pub errands_are : (z : Stages) (d i dcs : ℕ) (sizes : Sizes) → d ≡ i → sizes ≡ sizes_of (datacentre_at z d) → errands_from d dcs sizes.senders ≡ errands_from i dcs (datacentre_at z i).senders
+errands_are z d i dcs sizes same is = ap (λ (s : Sizes). errands_from d dcs s.senders) is ∙ ap (λ n. errands_from n dcs (datacentre_at z n).senders) same
+
+-- Stages that have taken turns
+
+pub few_there : (s : StagesState) → IsTaken s → length s.sites.datacentres ≤ 8
+few_there s h = let known = known_of h.script h.turns s h.taken in omega (arith, known.few, count_known (stages_after h.script h.turns) s.sites.datacentres known)
+
+pub count_there : (s : StagesState) → IsTaken s → length s.sites.datacentres ≡ s.workload.dcs
+count_there s h =
+    let known = known_of h.script h.turns s h.taken in
+    count_known (stages_after h.script h.turns) s.sites.datacentres known ∙ h.taken.shown.count ∙ ap (λ (l : Workload). l.dcs) (sym h.taken.workload)

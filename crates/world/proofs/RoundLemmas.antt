@@ -1,9 +1,8 @@
 -- Lists of turns and of errands, built one after another.
-use Rattle.std.proofs.Common.{◌≡◌, ℕ, zero, suc, ◌+◌, ◌<◌, ◌≤◌, Bool, true, false, List, [], ◌∷◌, ◌++◌, length, take, map, get_or, refl, ap, sym, ◌∙◌, arith, add-one, append_assoc}
+use Rattle.std.proofs.Common.{◌≡◌, ℕ, zero, suc, ◌+◌, ◌<◌, ◌≤◌, Bool, List, [], ◌∷◌, ◌++◌, length, take, map, get_or, cond, refl, ap, ap₂, sym, ◌∙◌, arith, add-one, append_assoc}
 use Rattle.std.specs.List.{All, filter, flat_map}
 use Rattle.std.proofs.Math.Seq.{take-suc}
-use Rattle.std.proofs.lemmas.Bool.{cond-true, cond-false}
-use Rattle.std.proofs.lemmas.List.{append-nil, flat_map_more, map_push}
+use Rattle.std.proofs.lemmas.List.{flat_map_more, map_push}
 use Rattle.std.proofs.lemmas.List.Elements.{All-nil, All-head, All-tail, All-append, All-push, filter-append}
 use Rattle.stage_world.specs.Opening.{numbered}
 use Rattle.stage_world.specs.Settling.{below}
@@ -35,16 +34,15 @@ take_all (x ∷ xs) (suc i) past = ap (λ ys. x ∷ ys) (take_all xs i (omega (a
 pub then_more : {X : Type 0} (start a b xs ys : List X) → xs ≡ start ++ a → ys ≡ xs ++ b → ys ≡ start ++ (a ++ b)
 then_more start a b xs ys before next = next ∙ ap (λ zs. zs ++ b) before ∙ append_assoc start a b
 
--- a number that passes the test, and one that fails it
-pub filter_kept : (p : ℕ → Bool) (xs : List ℕ) (i : ℕ) → p i ≡ true → xs ≡ filter p (below i) → xs ++ i ∷ [] ≡ filter p (below (i + 1))
-filter_kept p xs i passes is =
-    let one : filter p (i ∷ []) ≡ i ∷ [] = cond-true (p i) (i ∷ []) [] passes in
-    ap (λ ys. ys ++ i ∷ []) is ∙ ap (λ ys. filter p (below i) ++ ys) (sym one) ∙ sym (filter-append p (below i) (i ∷ [])) ∙ sym (ap (λ n. filter p (below n)) (add-one i))
+-- a number more, if it passes the test
+pub filter_next : (p : ℕ → Bool) (xs ys : List ℕ) (i d : ℕ) (passes : Bool) → ys ≡ xs ++ cond passes (d ∷ []) [] → passes ≡ p d → d ≡ i → xs ≡ filter p (below i) → ys ≡ filter p (below (i + 1))
+filter_next p xs ys i d passes next is same before =
+    next ∙ ap₂ (λ us vs. us ++ vs) before (ap (λ (b : Bool). cond b (d ∷ []) []) is ∙ ap (λ n. filter p (n ∷ [])) same)
+    ∙ sym (filter-append p (below i) (i ∷ [])) ∙ sym (ap (λ n. filter p (below n)) (add-one i))
 
-pub filter_left : (p : ℕ → Bool) (xs : List ℕ) (i : ℕ) → p i ≡ false → xs ≡ filter p (below i) → xs ≡ filter p (below (i + 1))
-filter_left p xs i fails is =
-    let none : filter p (i ∷ []) ≡ [] = cond-false (p i) (i ∷ []) [] fails in
-    is ∙ sym (append-nil (filter p (below i))) ∙ ap (λ ys. filter p (below i) ++ ys) (sym none) ∙ sym (filter-append p (below i) (i ∷ [])) ∙ sym (ap (λ n. filter p (below n)) (add-one i))
+-- a piece more
+pub flat_next : {X : Type 0} (f : ℕ → List X) (xs ys y : List X) (i : ℕ) → ys ≡ xs ++ y → y ≡ f i → xs ≡ flat_map f (below i) → ys ≡ flat_map f (below (i + 1))
+flat_next f xs ys y i next is before = next ∙ ap (λ zs. xs ++ zs) is ∙ flat_more f [] xs i before
 
 -- What all of a list have
 

@@ -1,5 +1,5 @@
 -- Turns of settling one after another.
-use Rattle.std.proofs.Common.{◌≡◌, inl, inr, ℕ, zero, suc, ◌+◌, ◌<◌, ◌≤◌, Bool, true, false, List, [], ◌∷◌, ◌++◌, length, take, map, get_or, refl, ap, ap₂, sym, ◌∙◌, subst, arith, add-one, append_assoc, below_more}
+use Rattle.std.proofs.Common.{◌≡◌, inl, inr, Result, Ok, Err, OnOk, ℕ, zero, suc, ◌+◌, ◌<◌, ◌≤◌, Bool, true, false, List, [], ◌∷◌, ◌++◌, length, take, map, get_or, refl, ap, ap₂, sym, ◌∙◌, subst, arith, add-one, append_assoc, below_more}
 use Rattle.std.specs.List.{All}
 use Rattle.std.proofs.lemmas.Bool.{cond-true, cond-false}
 use Rattle.std.proofs.lemmas.List.{append-nil, map-append}
@@ -13,13 +13,13 @@ use Rattle.stage_world.specs.Opening.{opening}
 use Rattle.abstract_log.specs.declared.script.Step.TheVariants.{Deliver, Send}
 use Rattle.stage_world.specs.LinkTurns.{link_length}
 use Rattle.stage_world.specs.Schedules.{AreTwo, IsStep, after_steps, step_of}
-use Rattle.stage_world.specs.Settling.{Errand, IsSettlingUpTo, after_passes, all_rounds, answering_rounds, errand_turns, errands, exchange, exchange_turns, is_answering, is_due, is_unfinished, sent_and_delivered, telling_rounds, turns_of_passes}
+use Rattle.stage_world.specs.Settling.{Errand, IsSettlingUpTo, after_passes, all_rounds, answering_rounds, errand_turns, errands, exchange, exchange_turns, is_answering, is_due, is_unfinished, rounds, sent_and_delivered, telling_rounds, turns_of_passes}
 use Rattle.world.specs.Settled.{HasLooped, MayBePlayed, Plays}
 use Rattle.world.specs.Showing.{IsBuiltStep}
 use Rattle.world.specs.Links.{AreThere, packets_at}
 use Rattle.world.proofs.MovingLemmas.{length_are, links_there}
 use Rattle.world.proofs.RoundLemmas.{take_all}
-use Rattle.world.proofs.SettlingLemmas.{errands_two}
+use Rattle.world.proofs.SettlingLemmas.{errands_two, rounds_may}
 use Rattle.world.specs.Taking.{HasTaken, IsTaken, StagesState, Taken, settled, stages_after, steps_of}
 
 pub after_append : (load : Workload) (z : Stages) (xs ys : List Step) → after_steps load z (xs ++ ys) ≡ after_steps load (after_steps load z xs) ys
@@ -271,3 +271,13 @@ link_of script ts s d e h two =
 
 pub count_of_link : (script : Script) (ts : List Taken) (s : StagesState) (d e : ℕ) → HasTaken script ts s → length (packets_at s.sites.links d e) ≡ link_length (stages_after script ts) d e
 count_of_link script ts s d e h = length_are script.workload.dcs (stages_after script ts) s.sites d e h.shown
+
+-- the last turn, whatever came of it
+pub ended_with : {T E : Type 0} (r : Result T E) (P : Type 0) (step : Step) (b c : StagesState) → ((script : Script) (ts : List Taken) → HasTaken script ts b → OnOk r (HasTaken script (ts ++ record { step = step; settling = true } ∷ []) c))
+    → (Plays (λ load z xs. xs ≡ step ∷ []) b c → P) → OnOk r P
+ended_with (Ok v) P step b c takes so = so (plays_one step b c takes)
+ended_with (Err e) P step b c takes so = tt
+
+-- steps that the stages decide may be played
+pub decided_may : (steps : List Step) (ds : List ℕ) (s : StagesState) → (h : IsTaken s) → All (λ d. d < s.workload.dcs) ds → steps ≡ rounds (stages_after h.script h.turns) ds → MayBePlayed s.workload steps
+decided_may steps ds s h there are = subst (MayBePlayed s.workload) (sym are) (rounds_may h.script h.turns s ds h.taken there)

@@ -1,5 +1,5 @@
 //! What the senders have to do in an exchange.
-ghost use Rattle.std.specs.Prelude.{◌≡◌, ◌++◌, ◌≤◌, IfOk, OnOk};
+ghost use Rattle.std.specs.Prelude.{◌≡◌, ◌++◌, ◌≤◌, length, IfOk, OnOk};
 ghost use Rattle.stage_world.specs.Opening.{numbered};
 ghost use Rattle.stage_world.specs.Settling.{errands};
 ghost use Rattle.stage_world.specs.Stages.{Stages as StageWorld};
@@ -32,7 +32,8 @@ pub(crate) fn errands(
     alloc: Global,
     datacentres: &Seq<Datacentre>,
 ) -> Result<Seq<Errand>, NoMemory>
-    requires { (z : StageWorld) × AreKnown z datacentres.now }
+    requires known { (z : StageWorld) × AreKnown z datacentres.now }
+    requires few { length datacentres.now ≤ 8 }
     ensures { (z : StageWorld) → AreKnown z datacentres.now → IfOk result (λ them. them ≡ errands z) }
 {
     let dcs = datacentres.len() as u32;

@@ -1,5 +1,5 @@
 //! What settling asks of the datacentres before it takes turns.
-ghost use Rattle.std.specs.Prelude.{◌≡◌, ◌<◌, ◌≤◌, length, filter, nat_lt, IfOk};
+ghost use Rattle.std.specs.Prelude.{◌≡◌, ◌<◌, ◌≤◌, ◌++◌, [], ◌∷◌, if◌then◌else◌, length, filter, nat_lt, IfOk, OnOk};
 ghost use Rattle.std.specs.List.{All, list_all};
 ghost use Rattle.std.specs.Option.{ForSome};
 ghost use Rattle.stage_world.specs.MoreTurns.{message_of, same_counts};
@@ -121,7 +121,7 @@ pub(crate) fn answering(
     alloc: Global,
     datacentres: &Seq<Datacentre>,
 ) -> Result<Seq<DcId>, NoMemory>
-    requires { (z : StageWorld) × AreKnown z datacentres.now }
+    requires few { length datacentres.now ≤ 8 }
     ensures { (z : StageWorld) → AreKnown z datacentres.now → IfOk result (λ ds. ds ≡ filter (λ d. has_unanswered (datacentre_at z d)) (below (length z.datacentres))) }
 {
     let mut ds = Seq::new(alloc);
@@ -129,11 +129,18 @@ pub(crate) fn answering(
         let Some(d) = DcId::new(number) else {
             unreachable!();
         };
-        if has_unanswered(datacentres, d) {
-            ds.push(d)?;
-        }
+        add_if(&mut ds, d, has_unanswered(datacentres, d))?;
     }
     Ok(ds)
+}
+
+fn add_if(ds: &mut Seq<DcId>, d: DcId, wanted: bool) -> Result<(), NoMemory>
+    ensures { OnOk result (ds.new ≡ ds.old ++ (if wanted then d ∷ [] else [])) }
+{
+    if wanted {
+        ds.push(d)?;
+    }
+    Ok(())
 }
 
 /// The turns of the local rounds of some datacentres.

@@ -1,18 +1,13 @@
-use Rattle.std.proofs.Common.{arith}
-use Rattle.world.proofs.KnownLemmas.{count_known}
+use Rattle.std.specs.List.{flat_map}
+use Rattle.stage_world.specs.Whole.{datacentre_at}
+use Rattle.world.specs.Settled.{errands_from}
+use Rattle.world.proofs.RoundLemmas.{flat_next}
+use Rattle.world.proofs.KnownLemmas.{errands_are}
 use Rattle.world.proofs.errands.errands.Goals as goal
 
-pub overflow_cast-dcs : goal.overflow_cast-dcs
-overflow_cast-dcs c = omega (arith, count_known _ _ c.requires.1, c.requires.1.few)
-
-pub unreachable-requires : goal.unreachable-requires
-unreachable-requires c = ?
-
-pub add_errands-requires : goal.add_errands-requires
-add_errands-requires c = ?
-
 pub loop-number-preserved : goal.loop-number-preserved
-loop-number-preserved c = ?
+loop-number-preserved c z known =
+    flat_next (λ d. errands_from d c.loop-number.dcs (datacentre_at z d).senders) _ _ _ _ c.in_ok-add_errands.ensures (errands_are z _ _ _ _ c.in-Some.ensures.value (c.members.ensures z known)) (c.loop-number.invariant z known)
 
 pub returns : goal.returns
-returns c = ?
+returns c z known = ?

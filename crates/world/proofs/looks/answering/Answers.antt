@@ -1,15 +1,11 @@
-use Rattle.std.proofs.Common.{arith}
-use Rattle.world.proofs.KnownLemmas.{count_known}
+use Rattle.std.proofs.Common.{◌∙◌}
+use Rattle.stage_world.specs.Settling.{has_unanswered}
+use Rattle.stage_world.specs.Whole.{datacentre_at}
+use Rattle.world.proofs.RoundLemmas.{filter_next}
 use Rattle.world.proofs.looks.answering.Goals as goal
 
-pub overflow_cast-number-end : goal.overflow_cast-number-end
-overflow_cast-number-end c = omega (arith, count_known _ _ c.requires.1, c.requires.1.few)
-
-pub unreachable-requires : goal.unreachable-requires
-unreachable-requires c = ?
-
 pub loop-number-preserved : goal.loop-number-preserved
-loop-number-preserved c = ?
+loop-number-preserved c z known = filter_next (λ d. has_unanswered (datacentre_at z d)) _ _ _ _ _ c.in_ok-add_if.ensures (c.has_unanswered.ensures z known) c.in-Some.ensures.value (c.loop-number.invariant z known)
 
 pub returns : goal.returns
-returns c = ?
+returns c z known = ?
