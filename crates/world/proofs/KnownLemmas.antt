@@ -1,6 +1,7 @@
 -- What is asked of datacentres whose stages are known.
 use Rattle.std.proofs.Common.{◌≡◌, ◌≢◌, ◌↔◌, ℕ, ◌+◌, ◌<◌, ◌≤◌, ◌&&◌, ◌||◌, Bool, true, false, List, [], ◌∷◌, length, take, get_or, refl, ap, ap₂, sym, ◌∙◌, subst, arith, Some, IsTrue, nat_lt}
-use Rattle.std.specs.List.{list_all, list_any}
+use Rattle.std.specs.List.{All, filter, flat_map, list_all, list_any}
+use Rattle.std.proofs.lemmas.List.Elements.{All-get_or}
 use Rattle.std.proofs.lemmas.Bool.Decides.{Decides-ltb}
 use Rattle.std.proofs.lemmas.List.Folds.{list_all_at, list_all_more, list_any_at, list_any_more}
 use Rattle.std.specs.Option.{ForSome}
@@ -13,7 +14,7 @@ use Rattle.abstract_log.specs.declared.script.Sizes.{Sizes}
 use Rattle.stage_world.specs.Stages.{Datacentre, Stages, sizes_of}
 use Rattle.stage_world.specs.Whole.{datacentre_at, nowhere_at}
 use Rattle.stage_world.specs.MoreTurns.{message_of, same_counts}
-use Rattle.stage_world.specs.Settling.{has_unanswered}
+use Rattle.stage_world.specs.Settling.{Errand, below, errands, has_unanswered}
 use Rattle.datacentre.specs.Seen.{DatacentreState, StandsForALog}
 use Rattle.stage_turns.specs.Clients.{is_unanswered}
 use Rattle.world.specs.Settled.{AreKnown, IsKnown, errands_from}
@@ -150,10 +151,23 @@ errands_are z d i dcs sizes same is = ap (λ (s : Sizes). errands_from d dcs s.s
 
 -- Stages that have taken turns
 
-pub few_there : (s : StagesState) → IsTaken s → length s.sites.datacentres ≤ 8
-few_there s h = let known = known_of h.script h.turns s h.taken in omega (arith, known.few, count_known (stages_after h.script h.turns) s.sites.datacentres known)
+pub few_dcs : (s : StagesState) → IsTaken s → s.workload.dcs ≤ 8
+few_dcs s h = subst (λ (l : Workload). l.dcs ≤ 8) (sym h.taken.workload) h.taken.fits.limits.workload.few
 
 pub count_there : (s : StagesState) → IsTaken s → length s.sites.datacentres ≡ s.workload.dcs
 count_there s h =
     let known = known_of h.script h.turns s h.taken in
     count_known (stages_after h.script h.turns) s.sites.datacentres known ∙ h.taken.shown.count ∙ ap (λ (l : Workload). l.dcs) (sym h.taken.workload)
+
+-- what was asked of each number below the last was asked of all
+
+pub answering_all : (z : Stages) (xs : List DatacentreState) (ds : List ℕ) (dcs i : ℕ) → AreKnown z xs → dcs ≡ length xs → i ≡ dcs → ds ≡ filter (λ d. has_unanswered (datacentre_at z d)) (below i) → ds ≡ filter (λ d. has_unanswered (datacentre_at z d)) (below (length z.datacentres))
+answering_all z xs ds dcs i known all last is = is ∙ ap (λ n. filter (λ d. has_unanswered (datacentre_at z d)) (below n)) (last ∙ all ∙ count_known z xs known)
+
+pub errands_all_are : (z : Stages) (xs : List DatacentreState) (them : List Errand) (dcs i : ℕ) → AreKnown z xs → dcs ≡ length xs → i ≡ dcs → them ≡ flat_map (λ d. errands_from d dcs (datacentre_at z d).senders) (below i) → them ≡ errands z
+errands_all_are z xs them dcs i known all last is =
+    is ∙ ap₂ (λ n k. flat_map (λ d. errands_from d n (datacentre_at z d).senders) (below k)) (all ∙ count_known z xs known) (last ∙ all ∙ count_known z xs known)
+
+-- one of a list of datacentres that are there
+pub item_within : (n : ℕ) (ds : List ℕ) (i d : ℕ) → All (λ x. x < n) ds → i < length ds → d ≡ get_or ds i d → d < n
+item_within n ds i d all within here = subst (λ x. x < n) (sym here) (All-get_or (λ x. x < n) ds i d within all)

@@ -24,7 +24,7 @@ use Rattle.stage_world.specs.Stages.{Datacentre, Stages, Session}
 use Rattle.stage_world.specs.StandsFor.{IsAsFar, StandsAt}
 use Rattle.stage_world.specs.Turns.{Turned, quiet, where_there}
 use Rattle.stage_world.specs.MoreTurns.{message_of, names_of, receive_turn}
-use Rattle.stage_world.specs.LinkTurns.{deliver_turn, has_lost, link_length, moved_at, put_in_link, send_turn, still, with_link}
+use Rattle.stage_world.specs.LinkTurns.{Moved, deliver_turn, has_lost, link_length, moved_at, put_in_link, send_turn, still, with_link}
 use Rattle.stage_world.specs.Schedules.{IsStep, place_of_step, step_of, turn_of}
 use Rattle.stage_world.specs.Whole.{IsTold, datacentre_at, link_at}
 use Rattle.stage_turns.specs.declared.done.TurnDone.{TurnDone}

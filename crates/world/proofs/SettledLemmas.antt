@@ -1,9 +1,9 @@
 -- Turns of settling one after another.
 use Rattle.std.proofs.Common.{◌≡◌, inl, inr, Result, Ok, Err, OnOk, ℕ, zero, suc, ◌+◌, ◌<◌, ◌≤◌, Bool, true, false, List, [], ◌∷◌, ◌++◌, length, take, map, get_or, refl, ap, ap₂, sym, ◌∙◌, subst, arith, add-one, append_assoc, below_more}
-use Rattle.std.specs.List.{All}
+use Rattle.std.specs.List.{All, filter}
 use Rattle.std.proofs.lemmas.Bool.{cond-true, cond-false}
 use Rattle.std.proofs.lemmas.List.{append-nil, map-append}
-use Rattle.std.proofs.lemmas.List.Elements.{All-get_or}
+use Rattle.std.proofs.lemmas.List.Elements.{All-filter, All-get_or}
 use Rattle.std.proofs.Math.Seq.{take-suc}
 use Rattle.abstract_log.specs.declared.command.Workload.{Workload}
 use Rattle.abstract_log.specs.declared.script.Script.{Script}
@@ -12,13 +12,14 @@ use Rattle.stage_world.specs.Stages.{Stages}
 use Rattle.stage_world.specs.Opening.{opening}
 use Rattle.abstract_log.specs.declared.script.Step.TheVariants.{Deliver, Send}
 use Rattle.stage_world.specs.LinkTurns.{link_length}
+use Rattle.stage_world.specs.Whole.{datacentre_at}
 use Rattle.stage_world.specs.Schedules.{AreTwo, IsStep, after_steps, step_of}
-use Rattle.stage_world.specs.Settling.{Errand, IsSettlingUpTo, after_passes, all_rounds, answering_rounds, errand_turns, errands, exchange, exchange_turns, is_answering, is_due, is_unfinished, rounds, sent_and_delivered, telling_rounds, turns_of_passes}
+use Rattle.stage_world.specs.Settling.{Errand, IsSettlingUpTo, after_passes, all_rounds, answering_rounds, below, errand_turns, errands, exchange, exchange_turns, has_unanswered, is_answering, is_due, is_unfinished, rounds, sent_and_delivered, telling_rounds, turns_of_passes}
 use Rattle.world.specs.Settled.{HasLooped, MayBePlayed, Plays}
 use Rattle.world.specs.Showing.{IsBuiltStep}
 use Rattle.world.specs.Links.{AreThere, packets_at}
 use Rattle.world.proofs.MovingLemmas.{length_are, links_there}
-use Rattle.world.proofs.RoundLemmas.{take_all}
+use Rattle.world.proofs.RoundLemmas.{all_below, take_all}
 use Rattle.world.proofs.SettlingLemmas.{errands_two, rounds_may}
 use Rattle.world.specs.Taking.{HasTaken, IsTaken, StagesState, Taken, settled, stages_after, steps_of}
 
@@ -281,3 +282,36 @@ ended_with (Err e) P step b c takes so = tt
 -- steps that the stages decide may be played
 pub decided_may : (steps : List Step) (ds : List ℕ) (s : StagesState) → (h : IsTaken s) → All (λ d. d < s.workload.dcs) ds → steps ≡ rounds (stages_after h.script h.turns) ds → MayBePlayed s.workload steps
 decided_may steps ds s h there are = subst (MayBePlayed s.workload) (sym are) (rounds_may h.script h.turns s ds h.taken there)
+
+-- rounds of datacentres that the stages decide
+pub plays_rounds : (ds : List ℕ) (F : Workload → Stages → List Step) (a b : StagesState) → ((script : Script) (ts : List Taken) → HasTaken script ts a → rounds (stages_after script ts) ds ≡ F script.workload (stages_after script ts))
+    → Plays (λ load z xs. xs ≡ rounds z ds) a b → Plays (λ load z xs. xs ≡ F load z) a b
+plays_rounds ds F a b are plays script ts h =
+    let one = plays script ts h in record { steps = one.steps; are = one.are ∙ are script ts h; taken = one.taken }
+
+-- all datacentres
+
+count_after : (script : Script) (ts : List Taken) (s : StagesState) → HasTaken script ts s → length (stages_after script ts).datacentres ≡ s.workload.dcs
+count_after script ts s h = h.shown.count ∙ ap (λ (l : Workload). l.dcs) (sym h.workload)
+
+pub all_are : (script : Script) (ts : List Taken) (s : StagesState) (ds : List ℕ) → HasTaken script ts s → ds ≡ below s.workload.dcs → rounds (stages_after script ts) ds ≡ all_rounds (stages_after script ts)
+all_are script ts s ds h is = ap (rounds (stages_after script ts)) (is ∙ ap below (sym (count_after script ts s h)))
+
+pub all_within : (s : StagesState) (ds : List ℕ) → ds ≡ below s.workload.dcs → All (λ d. d < s.workload.dcs) ds
+all_within s ds is = subst (All (λ d. d < s.workload.dcs)) (sym is) (all_below s.workload.dcs)
+
+-- those with a command that is not answered
+pub answering_within : (s : StagesState) (ds : List ℕ) → (h : IsTaken s) → ds ≡ filter (λ d. has_unanswered (datacentre_at (stages_after h.script h.turns) d)) (below (length (stages_after h.script h.turns).datacentres)) → All (λ d. d < s.workload.dcs) ds
+answering_within s ds h is =
+    let z : Stages = stages_after h.script h.turns in
+    subst (All (λ d. d < s.workload.dcs)) (sym is)
+    (All-filter (λ d. has_unanswered (datacentre_at z d)) (λ d. d < s.workload.dcs) (below (length z.datacentres))
+      (subst (λ n. All (λ d. d < n) (below (length z.datacentres))) (count_after h.script h.turns s h.taken) (all_below (length z.datacentres))))
+
+-- so it is after turns
+pub link_after : (P : Such) (a b s : StagesState) (x : Errand) → IsTaken a → AreTwo a.workload.dcs x.from x.to → Plays P a b → b ≡ s → AreThere x.from x.to s.sites.links
+link_after P a b s x taken two plays same =
+    let one = plays taken.script taken.turns taken.taken in
+    let dcs : a.workload.dcs ≡ b.workload.dcs = ap (λ (l : Workload). l.dcs) (sym (workload_kept P a b plays taken)) in
+    subst (λ (t : StagesState). AreThere x.from x.to t.sites.links) same
+    (link_of taken.script (taken.turns ++ settled one.steps) b x.from x.to one.taken (subst (λ n. AreTwo n x.from x.to) dcs two))

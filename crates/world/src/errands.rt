@@ -31,12 +31,13 @@ impl Model for Errand {
 pub(crate) fn errands(
     alloc: Global,
     datacentres: &Seq<Datacentre>,
+    dcs: u32,
 ) -> Result<Seq<Errand>, NoMemory>
     requires known { (z : StageWorld) × AreKnown z datacentres.now }
-    requires few { length datacentres.now ≤ 8 }
+    requires few { dcs ≤ 8 }
+    requires all { dcs ≡ length datacentres.now }
     ensures { (z : StageWorld) → AreKnown z datacentres.now → IfOk result (λ them. them ≡ errands z) }
 {
-    let dcs = datacentres.len() as u32;
     let mut them = Seq::new(alloc);
     for number in 0..dcs {
         let Some(d) = DcId::new(number) else {

@@ -120,12 +120,14 @@ pub(crate) fn all_of(alloc: Global, dcs: u32) -> Result<Seq<DcId>, NoMemory>
 pub(crate) fn answering(
     alloc: Global,
     datacentres: &Seq<Datacentre>,
+    dcs: u32,
 ) -> Result<Seq<DcId>, NoMemory>
-    requires few { length datacentres.now ≤ 8 }
+    requires few { dcs ≤ 8 }
+    requires all { dcs ≡ length datacentres.now }
     ensures { (z : StageWorld) → AreKnown z datacentres.now → IfOk result (λ ds. ds ≡ filter (λ d. has_unanswered (datacentre_at z d)) (below (length z.datacentres))) }
 {
     let mut ds = Seq::new(alloc);
-    for number in 0..datacentres.len() as u32 {
+    for number in 0..dcs {
         let Some(d) = DcId::new(number) else {
             unreachable!();
         };

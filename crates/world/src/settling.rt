@@ -78,7 +78,11 @@ impl Stages {
         requires { IsTaken self.old }
         ensures { OnOk result (Plays (λ load z steps. steps ≡ answering_rounds load z) self.old self.new) }
     {
-        let ds = answering(self.events.alloc(), &self.sites.datacentres)?;
+        let ds = answering(
+            self.events.alloc(),
+            &self.sites.datacentres,
+            self.workload.dcs,
+        )?;
         self.play_rounds(ds.as_slice())
     }
 
@@ -109,7 +113,11 @@ impl Stages {
         requires { IsTaken self.old }
         ensures { OnOk result (Plays (λ load z steps. steps ≡ exchange_turns load z) self.old self.new) }
     {
-        let them = errands(self.events.alloc(), &self.sites.datacentres)?;
+        let them = errands(
+            self.events.alloc(),
+            &self.sites.datacentres,
+            self.workload.dcs,
+        )?;
         for errand in them.as_slice() {
             self.run(errand)?;
         }

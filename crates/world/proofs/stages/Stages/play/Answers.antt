@@ -8,10 +8,10 @@ pub loop-step-init : goal.loop-step-init
 loop-step-init c = plays_none _
 
 pub take-requires-clause-step : goal.take-requires-clause-step
-take-requires-clause-step c = (item_may _ _ _ _ _ _ _ c.loop-step.invariant c.requires.taken c.as_slice-step-items.ensures c.requires.may c.loop-step-test.true c.step-item.is).0
+take-requires-clause-step c = (item_may _ _ _ _ _ _ c.loop-step.invariant c.requires.taken c.requires.may c.loop-step-test.true c.step-item.is).0
 
 pub take-requires-clause-built : goal.take-requires-clause-built
-take-requires-clause-built c = (item_may _ _ _ _ _ _ _ c.loop-step.invariant c.requires.taken c.as_slice-step-items.ensures c.requires.may c.loop-step-test.true c.step-item.is).1
+take-requires-clause-built c = (item_may _ _ _ _ _ _ c.loop-step.invariant c.requires.taken c.requires.may c.loop-step-test.true c.step-item.is).1
 
 pub loop-step-preserved : goal.loop-step-preserved
 loop-step-preserved c = plays_next _ _ _ _ _ _ c.loop-step-test.true c.step-item.is c.loop-step.invariant (plays_one _ _ _ c.in_ok-take.ensures.taken)

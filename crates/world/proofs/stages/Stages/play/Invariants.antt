@@ -4,4 +4,4 @@ use Rattle.world.proofs.SettledLemmas.{AreThese}
 use Rattle.world.proofs.stages.Stages.play.Given as goal
 
 abbrev pub invariant-loop-step : goal.invariant-loop-step
-invariant-loop-step l = Plays (AreThese (take l.step-index l.step-items)) l.initial.self l.self
+invariant-loop-step l = Plays (AreThese (take l.step-index l.steps)) l.initial.self l.self
