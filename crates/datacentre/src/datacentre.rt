@@ -7,22 +7,26 @@ ghost use Rattle.stage_world.specs.Stages.{sizes_of};
 ghost use Rattle.stage_world.specs.Schedules.{turn_of};
 ghost use Rattle.datacentre.specs.Seen.{IsWhole, StandsForALog, seen};
 ghost use Rattle.stage_turns.specs.Clients.{is_unanswered};
+ghost use Rattle.datacentre.specs.Leaving.{IsLeftBy};
 ghost use Rattle.datacentre.specs.Turning.{IsBuilt, Sends, TakesTurn};
 ghost use Rattle.stage_turns.specs.Told.{IsToldBy};
 ghost use Rattle.record_codec.specs.declared.message.Message.{Message};
 ghost use Rattle.record_codec.specs.Wire.{SpellsMessage};
 ghost use Rattle.stage_world.specs.MoreTurns.{message_of, receive_turn};
 
+use crate::leaving::leave;
 use crate::opening::{
-    new_batchers, new_filters, new_maintainers, new_ring, new_senders, new_sessions, new_vectors,
+    new_batchers, new_filters, new_indexers, new_maintainers, new_ring, new_senders, new_sessions,
+    new_vectors,
 };
 use crate::parts::Parts;
 use crate::{Session, TurnDone, turns};
-use abstract_log::{Sizes, Step, Workload};
+use abstract_log::{LeftAt, Sizes, Step, Workload};
 use awareness_table::Aware;
 use causal_deps::Counts;
-use cz_base::{DcId, NoMemory};
+use cz_base::{DcId, NoMemory, Seq};
 use flstore_rounds::Epochs;
+use log_gc::Gc;
 use lossy_links::Packet;
 use std::alloc::Global;
 use std::marker::Model;
@@ -186,6 +190,17 @@ impl Datacentre {
         self.parts.sessions.as_slice()
     }
 
+    /// What it leaves: what stands at each position of its log, and its table. The records are moved, and all else is given back.
+    pub fn leave(self) -> Result<LeftAt, NoMemory>
+        ensures { IfOk result (IsLeftBy self) }
+    {
+        let Datacentre { parts, failed } = self;
+        if failed {
+            return Err(NoMemory);
+        }
+        leave(parts)
+    }
+
     /// Whether one of its sessions has a command that is not answered.
     pub fn unanswered(&self) -> bool
         ensures { ForSome self.now.stages (λ z. result ≡ list_any is_unanswered z.sessions) }
@@ -239,10 +254,12 @@ fn new_parts(
         queues: new_ring(alloc, dc, dcs, sizes.queues, &epochs)?,
         maintainers: new_maintainers(alloc, sizes.maintainers, &epochs)?,
         vectors: new_vectors(alloc, sizes.maintainers, &epochs)?,
-        indexers: new_vectors(alloc, sizes.indexers, &epochs)?,
+        indexers: new_indexers(alloc, sizes.indexers, &epochs)?,
         senders: new_senders(alloc, dc, sizes.senders)?,
         receivers: sizes.receivers,
         table: Aware::new(dc, dcs),
         learnt: 0,
+        floor: Gc::new(),
+        collected: Seq::new(alloc),
     })
 }

@@ -6,6 +6,7 @@
 #![tactic(auto)]
 
 mod datacentre;
+mod leaving;
 mod opening;
 mod parts;
 mod taking;

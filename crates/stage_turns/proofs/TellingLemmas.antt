@@ -1,5 +1,5 @@
 -- What one vector tells another.
-use Rattle.std.proofs.Common.{◌≡◌, ◌≢◌, ◌↔◌, ℕ, ◌<◌, ◌||◌, not, Bool, true, false, List, [], length, map, set, get_or, refl, ap, sym, ◌∙◌, subst, inl, inr, arith}
+use Rattle.std.proofs.Common.{◌≡◌, ◌≢◌, ◌↔◌, ℕ, ◌<◌, ◌||◌, not, Bool, true, false, List, [], length, set, get_or, refl, ap, sym, ◌∙◌, subst, inl, inr, arith}
 use Rattle.std.specs.Bool.{IsTrue}
 use Rattle.std.proofs.lemmas.Bool.{cases_eq, false≢true}
 use Rattle.std.proofs.lemmas.List.{get_or-map, get_or-set_other, length-map, length-set, same_lists}
@@ -72,9 +72,9 @@ module _ (vs : List Pair) (from to : ℕ) (own heard : Pair) where
   all_same at_from at_to k = elim (cases_eq k from) [
     | inl same ↦ subst AreSame (sym same) at_from
     | inr not_from ↦ elim (cases_eq k to) [
-        | inl same ↦ subst AreSame (sym same) at_to
-        | inr not_to ↦ elsewhere k not_from not_to
-      ]
+      | inl same ↦ subst AreSame (sym same) at_to
+      | inr not_to ↦ elsewhere k not_from not_to
+    ]
   ]
 
   same_marks : AreSame from → AreSame to → marks_in vs ≡ marks_in ws

@@ -8,7 +8,8 @@ use Rattle.lossy_links.specs.Links.{message_at}
 use Rattle.abstract_log.specs.declared.command.Workload.{Workload}
 use Rattle.abstract_log.specs.declared.script.Step.{Step}
 use Rattle.abstract_log.specs.declared.script.Step.TheVariants.{Send, Deliver, Lose, Copy}
-use Rattle.stage_world.specs.Stages.{Datacentre, Indexer, Stages, no_epochs}
+use Rattle.tag_indexer.specs.Indexers.{IndexerState}
+use Rattle.stage_world.specs.Stages.{Datacentre, Stages, no_epochs}
 use Rattle.stage_world.specs.Whole.{datacentre_at, link_at}
 use Rattle.stage_world.specs.Schedules.{step_of}
 
@@ -22,7 +23,7 @@ maintainer_apart m = record m { epochs = no_epochs }
 abbrev pub pair_apart : Pair → Pair
 pair_apart v = record v { epochs = no_epochs }
 
-abbrev pub indexer_apart : Indexer → Indexer
+abbrev pub indexer_apart : IndexerState → IndexerState
 indexer_apart i = record i { pair = pair_apart i.pair }
 
 -- a datacentre, whatever epoch lists its queues, maintainers, vectors and indexers have; that of the token counts

@@ -3,6 +3,7 @@ pub mod CallLemmas
 pub mod LinkLemmas
 pub mod OpeningLemmas
 pub mod SiteLemmas
+pub mod LeftLemmas
 pub mod TakingLemmas
 pub mod MovingLemmas
 pub mod IdleLemmas

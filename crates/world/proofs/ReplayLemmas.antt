@@ -76,6 +76,7 @@ replayed script s result settles finished is = record {
   lines = is.lines;
   is_run = is.is_run;
   finished = subst (λ (es : List Event). IsFinished (world_of script.workload es)) (sym is.events) finished;
+  left = is.left;
 }
 
 pub step_fits : (script : Script) (ts : List Taken) (s : StagesState) (items : List Step) (i : ℕ) (x : Step) → items ≡ script.steps → HasTaken script ts s → All (IsStep script.workload) script.steps → i < length items → x ≡ get_or items i x → IsStep s.workload x

@@ -1,6 +1,6 @@
 -- Turns one after another.
 use Rattle.std.proofs.Common.{◌≡◌, inl, inr, Bool, true, false, List, [], ◌∷◌, ◌++◌, refl, ap, ap₂, sym, ◌∙◌, subst}
-use Rattle.std.specs.List.{All}
+use Rattle.std.specs.List.{All, AllZip}
 use Rattle.std.proofs.lemmas.List.{map_push, append_assoc, append-nil}
 use Rattle.std.proofs.lemmas.List.Elements.{All-push}
 use Rattle.abstract_log.specs.declared.command.Workload.{Workload}
@@ -9,6 +9,7 @@ use Rattle.abstract_log.specs.declared.script.Outcome.{Outcome}
 use Rattle.abstract_log.specs.declared.script.Script.{Script}
 use Rattle.abstract_log.specs.declared.script.StageLine.{StageLine}
 use Rattle.abstract_log.specs.declared.script.Step.{Step}
+use Rattle.abstract_log.specs.declared.world.World.{World}
 use Rattle.abstract_log.specs.Fits.{FitsLimits}
 use Rattle.abstract_log.specs.Runs.{IsRun, world_of}
 use Rattle.log_laws.proofs.LimitedRuns.{laws_of_run, workload_is}
@@ -19,10 +20,12 @@ use Rattle.stage_world.specs.Idle.{IsIdleTurn}
 use Rattle.stage_world.specs.Whole.{StandsFor}
 use Rattle.stage_world.proofs.AllTurns.{schedule}
 use Rattle.stage_turns.specs.declared.done.TurnDone.{TurnDone}
+use Rattle.datacentre.specs.Leaving.{IsLeftBy}
 use Rattle.world.specs.declared.sites.Sites.{Sites}
 use Rattle.world.specs.declared.stages.Played.{Played}
 use Rattle.world.specs.Showing.{AreBuilt, HasMoved, IsBuiltStep, MayStep, Shows, TellsIdle}
 use Rattle.world.specs.Taking.{AreLines, HasTaken, IsBefore, IsPlayed, IsTaken, StagesState, Taken, events_after, line_of, lines_told, stages_after, steps_of}
+use Rattle.world.proofs.LeftLemmas.{left_of_all}
 
 pub after_push : (load : Workload) (z : Stages) (ts : List Step) (t : Step) → after_steps load z (ts ++ t ∷ []) ≡ (step_of load (after_steps load z ts) t).after
 after_push load z [] t = refl
@@ -129,16 +132,21 @@ module _ (s : StagesState) (step : Step) (settling : Bool) (sites : Sites) (done
     taken = taken_next h.script h.turns h.taken (moves (stages_after h.script h.turns) (may_take h.script h.turns s step h.taken good built));
   }
 
-pub played : (script : Script) (ts : List Taken) (s : StagesState) (result : Played) → HasTaken script ts s → result.run.workload ≡ s.workload → result.run.events ≡ s.events → result.stages ≡ s.lines → IsPlayed script ts result
-played script ts s result h workload events lines =
+pub played : (script : Script) (ts : List Taken) (s : StagesState) (result : Played) → HasTaken script ts s → result.run.workload ≡ s.workload → result.run.events ≡ s.events → result.stages ≡ s.lines
+    → AllZip IsLeftBy s.sites.datacentres result.left → IsPlayed script ts result
+played script ts s result h workload events lines left =
     let run = schedule script (steps_of ts) h.fits h.steps in
     let is : result.run.events ≡ events_after script ts = events ∙ h.events in
+    let w : World = world_of script.workload result.run.events in
+    let stands : StandsFor w (stages_after script ts) = subst (λ es. StandsFor (world_of script.workload es) (stages_after script ts)) (sym is) run.1 in
     record {
       workload = workload ∙ h.workload;
       events = is;
       lines = subst (AreLines script.workload (opening script) ts) (sym lines) h.lines;
       is_run = subst (IsRun script.workload) (sym is) run.0;
-      stands = subst (λ es. StandsFor (world_of script.workload es) (stages_after script ts)) (sym is) run.1;
+      stands = stands;
+      left = left_of_all w (stages_after script ts) s.sites result.left
+          (subst (λ n. Shows n (stages_after script ts) s.sites) (sym (ap (λ (l : Workload). l.dcs) (workload_is script.workload result.run.events))) h.shown) stands left;
     }
 
 -- What was written is as the code has it.

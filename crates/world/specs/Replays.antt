@@ -2,6 +2,7 @@
 use Rattle.std.specs.Prelude.{◌≡◌, List, ◌++◌}
 use Rattle.abstract_log.specs.declared.script.Script.{Script}
 use Rattle.abstract_log.specs.declared.script.Step.{Step}
+use Rattle.abstract_log.specs.Left.{left_of}
 use Rattle.abstract_log.specs.Runs.{IsRun, IsFinished, world_of}
 use Rattle.stage_world.specs.Opening.{opening}
 use Rattle.stage_world.specs.Schedules.{after_steps}
@@ -14,7 +15,8 @@ abbrev pub turns_of : Script → List Step → List Taken
 turns_of script settling = taken_of script.steps ++ settled settling
 
 -- The run is one on the script's workload. Its turns are the script's steps, and then exactly the turns by which the stages settle from
--- there on, marked as such; the lines are those of all turns but the idle ones of settling. The run is finished.
+-- there on, marked as such; the lines are those of all turns but the idle ones of settling. The run is finished,
+-- and what it leaves is told.
 pub record IsReplayed (script : Script) (played : Played) : Type 0 where
   pub settling : List Step
   pub settles : IsSettlingUpTo 524288 script.workload (after_steps script.workload (opening script) script.steps) settling
@@ -23,3 +25,4 @@ pub record IsReplayed (script : Script) (played : Played) : Type 0 where
   pub lines : AreLines script.workload (opening script) (turns_of script settling) played.stages
   pub is_run : IsRun script.workload played.run.events
   pub finished : IsFinished (world_of script.workload played.run.events)
+  pub left : played.left ≡ left_of (world_of script.workload played.run.events)

@@ -7,6 +7,7 @@ use Rattle.abstract_log.specs.declared.script.Script.{Script}
 use Rattle.abstract_log.specs.declared.script.StageLine.{StageLine}
 use Rattle.abstract_log.specs.declared.script.Step.{Step}
 use Rattle.abstract_log.specs.Fits.{FitsScript}
+use Rattle.abstract_log.specs.Left.{left_of}
 use Rattle.abstract_log.specs.Runs.{IsRun, world_of}
 use Rattle.stage_world.specs.Stages.{Stages}
 use Rattle.stage_world.specs.Opening.{opening}
@@ -84,11 +85,12 @@ pub record IsTaken (s : StagesState) : Type 0 where
   pub turns : List Taken
   pub taken : HasTaken script turns s
 
--- What was written is a run on the script's workload, the one of these turns, with their lines; and the stages after the turns
--- stand for the world that the run leaves.
+-- What was written is a run on the script's workload, the one of these turns, with their lines; the stages after the turns stand
+-- for the world that the run leaves, and what is told to be left is what that world has.
 pub record IsPlayed (script : Script) (ts : List Taken) (played : Played) : Type 0 where
   pub workload : played.run.workload ≡ script.workload
   pub events : played.run.events ≡ events_after script ts
   pub lines : AreLines script.workload (opening script) ts played.stages
   pub is_run : IsRun script.workload played.run.events
   pub stands : StandsFor (world_of script.workload played.run.events) (stages_after script ts)
+  pub left : played.left ≡ left_of (world_of script.workload played.run.events)

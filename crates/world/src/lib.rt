@@ -9,6 +9,7 @@
 mod calls;
 mod errands;
 mod laws;
+mod leaving;
 mod linking;
 mod looks;
 mod opening;

@@ -3,7 +3,7 @@ ghost use Rattle.std.specs.Prelude.{◌≡◌, ◌<◌, ◌≤◌, ◌++◌, [],
 ghost use Rattle.std.specs.List.{All, list_all};
 ghost use Rattle.std.specs.Option.{ForSome};
 ghost use Rattle.stage_world.specs.MoreTurns.{message_of, same_counts};
-ghost use Rattle.stage_world.specs.Settling.{all_rounds, below, has_unanswered, is_agreed, is_answering, is_due, is_unfinished, rounds};
+ghost use Rattle.stage_world.specs.Settling.{below, has_unanswered, is_agreed, is_answering, is_due, is_unfinished, rounds};
 ghost use Rattle.stage_world.specs.Stages.{Stages as StageWorld, sizes_of};
 ghost use Rattle.stage_world.specs.Whole.{datacentre_at};
 ghost use Rattle.world.specs.Settled.{AreKnown};

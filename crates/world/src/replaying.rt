@@ -25,7 +25,7 @@ pub fn replay(alloc: Global, script: &Script) -> Result<Played, NoMemory>
     if !stages.is_finished() {
         return Err(NoMemory);
     }
-    Ok(stages.finish())
+    stages.finish()
 }
 
 // The stages after the script's own steps.

@@ -6,19 +6,21 @@ ghost use Rattle.stage_world.specs.Schedules.{IsStep};
 ghost use Rattle.world.specs.Showing.{AreBuilt, IsBuiltStep};
 ghost use Rattle.world.specs.Taking.{lines_told};
 
+use crate::leaving::leave;
 use crate::looks::is_unfinished;
 use crate::opening::open_sites;
 use crate::sites::Sites;
-use abstract_log::{Event, Outcome, Run, Script, StageLine, StageLog, Step, Workload};
+use abstract_log::{Event, Left, Outcome, Run, Script, StageLine, StageLog, Step, Workload};
 use cz_base::{NoMemory, Seq};
 use std::alloc::Global;
 use std::marker::Model;
 
-/// A run, and the turns that brought it.
+/// A run, the turns that brought it, and what it leaves.
 #[derive(Debug, Drop)]
 pub struct Played {
     pub run: Run,
     pub stages: StageLog,
+    pub left: Left,
 }
 
 /// All datacentres, the links between them, and what was written of their turns. Once a call has answered `NoMemory`, so does
@@ -107,21 +109,23 @@ impl Stages {
         !is_unfinished(&self.sites.datacentres)
     }
 
-    /// What was written: the run, and a line for each turn.
-    pub fn finish(self) -> Played
-        ensures { (script : ScriptValue) (ts : List Taken) → HasTaken script ts self → IsPlayed script ts result }
+    /// What was written, the run and a line for each turn; and what the run leaves, which is moved out of the stages.
+    pub fn finish(self) -> Result<Played, NoMemory>
+        ensures { (script : ScriptValue) (ts : List Taken) → HasTaken script ts self → IfOk result (IsPlayed script ts) }
     {
         let Stages {
             workload,
-            sites: _,
+            sites,
             events,
             lines,
             failed: _,
         } = self;
-        Played {
+        let left = leave(events.alloc(), sites)?;
+        Ok(Played {
             run: Run { workload, events },
             stages: lines,
-        }
+            left,
+        })
     }
 }
 
