@@ -1,0 +1,12 @@
+pub mod LawfulAfter
+pub mod Live
+pub mod Walks
+pub mod Progress
+pub mod ClientSteps
+pub mod ClientTurns
+pub mod Members
+pub mod Rounding
+pub mod Gathering
+pub mod Ring
+pub mod Drafts
+pub mod Placing
