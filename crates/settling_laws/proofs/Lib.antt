@@ -10,3 +10,7 @@ pub mod Gathering
 pub mod Ring
 pub mod Drafts
 pub mod Placing
+pub mod Marks
+pub mod Gossiping
+pub mod Posting
+pub mod LocalRound

@@ -95,7 +95,7 @@ module _ (load : Workload) (d : ℕ) (z : Datacentre) where
         (has_taken (learned (maintainer_at y.maintainers m) (queue_at y.queues q).epochs) (map slot_of (outbox_for (queue_at y.queues q) m))).epochs
         ∙ ap (longer (maintainer_at y.maintainers m).epochs) whole_q ∙ longer_whole y.token.epochs (maintainer_at y.maintainers m).epochs old.known
 
-    pub place_stays : IsStampedRound load d z (turned d y (Place d q m))
+    place_stays : IsStampedRound load d z (turned d y (Place d q m))
     place_stays = record {
       round = round_goes load d z y (Place d q m) refl h.round;
       drained = subst IsDrained (sym is) (record {
@@ -108,7 +108,7 @@ module _ (load : Workload) (d : ℕ) (z : Datacentre) where
           (All-set_at (λ (x : QueueState). x.epochs ≡ y.token.epochs) y.queues q (without_outbox (queue_at y.queues q) m) no_queue (λ _ same. same) h.epochs);
     }
 
-    pub place_keeps : (pair : ℕ × ℕ) → IsTaken pair y → IsTaken pair (turned d y (Place d q m))
+    place_keeps : (pair : ℕ × ℕ) → IsTaken pair y → IsTaken pair (turned d y (Place d q m))
     place_keeps pair e = subst (IsTaken pair) (sym is) (record {
       outbox = outbox_kept (cases_eq pair.0 q);
       epochs = at_set (λ (x : MaintainerState Record). x.epochs ≡ y.token.epochs) y.maintainers m pair.1 new_m no_maintainer (λ _. new_epochs) e.epochs;
@@ -121,7 +121,7 @@ module _ (load : Workload) (d : ℕ) (z : Datacentre) where
             ∙ ap (λ x. outbox_for x pair.1) (get_or-set_same y.queues q (without_outbox (queue_at y.queues q) m) no_queue inside_q)
             ∙ at_set (λ es. es ≡ []) (queue_at y.queues q).outboxes m pair.1 [] [] (λ _. refl) (ap (λ j. outbox_for (queue_at y.queues j) pair.1) (sym same) ∙ e.outbox)
 
-    pub place_makes : (pair : ℕ × ℕ) → pair.0 ≡ q → pair.1 ≡ m → IsTaken pair (turned d y (Place d q m))
+    place_makes : (pair : ℕ × ℕ) → pair.0 ≡ q → pair.1 ≡ m → IsTaken pair (turned d y (Place d q m))
     place_makes pair at_q at_m = subst (IsTaken pair) (sym is) (record {
       outbox = ap (λ j. outbox_for (queue_at (set y.queues q (without_outbox (queue_at y.queues q) m)) j) pair.1) at_q
           ∙ ap (λ x. outbox_for x pair.1) (get_or-set_same y.queues q (without_outbox (queue_at y.queues q) m) no_queue inside_q)
@@ -169,7 +169,7 @@ module _ (load : Workload) (d : ℕ) (z : Datacentre) where
     none_waits : (p : ℕ) (qs : List QueueState) → All (λ q. All (λ es. es ≡ []) q.outboxes) qs → waiting_in p qs ≡ 0
     none_waits p qs all = sum_none (waiting p) qs (λ k e within. sum_none (times_among p) (get_or qs k e).outboxes (λ j f inside. ap (times_among p) (all k e within j f inside)))
 
-    pub all_placed : IsAllPlaced y
+    all_placed : IsAllPlaced y
     all_placed = record {
       queues = h.epochs;
       outboxes = outboxes_empty;

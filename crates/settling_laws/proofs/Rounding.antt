@@ -72,3 +72,10 @@ at_put P xs i y d new none = elim (cases_lt i (length xs)) [
 pub along_all : (d : ℕ) (I : Datacentre → Type 0) (Q : Step → Type 0) (ts : List Step) → ((y : Datacentre) (t : Step) → Q t → I y → I (turned d y t)) → All Q ts → (z : Datacentre) → I z → I (walked d z ts)
 along_all d I Q [] keeps all z i = i
 along_all d I Q (t ∷ ts) keeps all z i = along_all d I Q ts keeps (All-tail Q t ts all) (turned d z t) (keeps z t (All-head Q t ts all) i)
+
+-- the same where the new element takes the place of the old one
+pub at_changed : {X : Type 0} (P : X → Type 0) (xs : List X) (i k : ℕ) (y d : X) → (P (get_or xs i d) → P y) → P (get_or xs k d) → P (get_or (set xs i y) k d)
+at_changed P xs i k y d new old = elim (cases_eq k i) [
+  | inr other ↦ subst P (sym (get_or-set_other xs i k y d other)) old
+  | inl same ↦ at_set P xs i k y d (λ _. new (subst (λ j. P (get_or xs j d)) same old)) old
+]
