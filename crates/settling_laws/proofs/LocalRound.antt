@@ -23,23 +23,39 @@ use Rattle.settling_laws.proofs.Placing.{IsStampedRound, places_fill}
 use Rattle.settling_laws.proofs.Gossiping.{IsPlacedRound, gossips_tell}
 use Rattle.settling_laws.proofs.Posting.{IsGossipedRound, posts_cover, learn_tells}
 
--- the turns of a local round behind those of the clients
-abbrev pub rest_of_round : ℕ → Datacentre → List Step
-rest_of_round d z = flushes d z ++ passes d z ++ ring d z ++ places d z ++ gossips d z ++ posts d z ++ Learn d ∷ []
-
 -- all turns of a local round are such turns
 pub all_turns : (load : Workload) (d : ℕ) (z : Datacentre) → IsLive load d z → All (IsTurnAt load d) (local_round d z)
 all_turns load d z l =
     let P : Step → Type 0 = IsTurnAt load d in
-    All-append P (clients z) (rest_of_round d z) (All-weaker (IsClientOf load d) P (λ t is. client_at load d t is) (clients z) (all_clients load d z l))
-    (All-append P (flushes d z) (passes d z ++ ring d z ++ places d z ++ gossips d z ++ posts d z ++ Learn d ∷ []) (All-numbered P (Flush d) (length z.batchers) (λ i. refl))
-    (All-append P (passes d z) (ring d z ++ places d z ++ gossips d z ++ posts d z ++ Learn d ∷ []) (All-numbered P (λ f. Pass d f (f % length z.queues)) (length z.filters) (λ i. refl))
-    (All-append P (ring d z) (places d z ++ gossips d z ++ posts d z ++ Learn d ∷ [])
-    (All-pieces P (λ i. Stamp d ((z.token.at + i) % length z.queues) ∷ Token d ∷ []) (below (length z.queues)) (λ i. All-cons P (Stamp d ((z.token.at + i) % length z.queues)) (Token d ∷ []) refl (All-cons P (Token d) [] refl (All-nil P))))
-    (All-append P (places d z) (gossips d z ++ posts d z ++ Learn d ∷ []) (All-pieces P (λ q. numbered (Place d q) (length z.maintainers)) (below (length z.queues)) (λ q. All-numbered P (Place d q) (length z.maintainers) (λ i. refl)))
-    (All-append P (gossips d z) (posts d z ++ Learn d ∷ []) (All-pieces P (λ m. numbered (Gossip d m) (length z.maintainers)) (below (length z.maintainers)) (λ m. All-numbered P (Gossip d m) (length z.maintainers) (λ i. refl)))
-    (All-append P (posts d z) (Learn d ∷ []) (All-pieces P (λ m. numbered (Post d m) (length z.indexers)) (below (length z.maintainers)) (λ m. All-numbered P (Post d m) (length z.indexers) (λ i. refl)))
-    (All-cons P (Learn d) [] refl (All-nil P))))))))
+    All-append P (clients z ++ flushes d z ++ passes d z ++ ring d z ++ places d z ++ gossips d z ++ posts d z) (Learn d ∷ [])
+    (All-append P (clients z ++ flushes d z ++ passes d z ++ ring d z ++ places d z ++ gossips d z) (posts d z)
+    (All-append P (clients z ++ flushes d z ++ passes d z ++ ring d z ++ places d z) (gossips d z)
+    (All-append P (clients z ++ flushes d z ++ passes d z ++ ring d z) (places d z)
+    (All-append P (clients z ++ flushes d z ++ passes d z) (ring d z)
+    (All-append P (clients z ++ flushes d z) (passes d z)
+    (All-append P (clients z) (flushes d z)
+    (All-weaker (IsClientOf load d) P (λ t is. client_at load d t is) (clients z) (all_clients load d z l))
+    (All-numbered P (Flush d) (length z.batchers) (λ i. refl)))
+    (All-numbered P (λ f. Pass d f (f % length z.queues)) (length z.filters) (λ i. refl)))
+    (All-pieces P (λ i. Stamp d ((z.token.at + i) % length z.queues) ∷ Token d ∷ []) (below (length z.queues)) (λ i. All-cons P (Stamp d ((z.token.at + i) % length z.queues)) (Token d ∷ []) refl (All-cons P (Token d) [] refl (All-nil P)))))
+    (All-pieces P (λ q. numbered (Place d q) (length z.maintainers)) (below (length z.queues)) (λ q. All-numbered P (Place d q) (length z.maintainers) (λ i. refl))))
+    (All-pieces P (λ m. numbered (Gossip d m) (length z.maintainers)) (below (length z.maintainers)) (λ m. All-numbered P (Gossip d m) (length z.maintainers) (λ i. refl))))
+    (All-pieces P (λ m. numbered (Post d m) (length z.indexers)) (below (length z.maintainers)) (λ m. All-numbered P (Post d m) (length z.indexers) (λ i. refl))))
+    (All-cons P (Learn d) [] refl (All-nil P))
+
+-- the datacentre after the turns behind those of the clients
+abbrev pub after_rest : ℕ → Datacentre → Datacentre → Datacentre
+after_rest d z y = turned d (walked d (walked d (walked d (walked d (walked d (walked d y (flushes d z)) (passes d z)) (ring d z)) (places d z)) (gossips d z)) (posts d z)) (Learn d)
+
+pub round_is : (d : ℕ) (z : Datacentre) → walked d z (local_round d z) ≡ after_rest d z (walked d z (clients z))
+round_is d z =
+    let flushed = walked-append d (clients z) (flushes d z) z in
+    let passed = walked-append d (clients z ++ flushes d z) (passes d z) z ∙ ap (λ v. walked d v (passes d z)) flushed in
+    let stamped = walked-append d (clients z ++ flushes d z ++ passes d z) (ring d z) z ∙ ap (λ v. walked d v (ring d z)) passed in
+    let placed = walked-append d (clients z ++ flushes d z ++ passes d z ++ ring d z) (places d z) z ∙ ap (λ v. walked d v (places d z)) stamped in
+    let told = walked-append d (clients z ++ flushes d z ++ passes d z ++ ring d z ++ places d z) (gossips d z) z ∙ ap (λ v. walked d v (gossips d z)) placed in
+    let covered = walked-append d (clients z ++ flushes d z ++ passes d z ++ ring d z ++ places d z ++ gossips d z) (posts d z) z ∙ ap (λ v. walked d v (posts d z)) told in
+    walked-append d (clients z ++ flushes d z ++ passes d z ++ ring d z ++ places d z ++ gossips d z ++ posts d z) (Learn d ∷ []) z ∙ ap (λ v. turned d v (Learn d)) covered
 
 -- What a local round of z leaves: it is a round from z, and the datacentre is rounded.
 pub record IsRoundOf (load : Workload) (d : ℕ) (z y : Datacentre) : Type 0 where
@@ -47,7 +63,7 @@ pub record IsRoundOf (load : Workload) (d : ℕ) (z y : Datacentre) : Type 0 whe
   pub rounded : IsRounded d y
 
 -- the turns behind those of the clients, from a datacentre in the same round
-pub rest_rounds : (load : Workload) (d : ℕ) (z y : Datacentre) → IsLive load d z → IsWithToken load d z y → IsRoundOf load d z (walked d y (rest_of_round d z))
+pub rest_rounds : (load : Workload) (d : ℕ) (z y : Datacentre) → IsLive load d z → IsWithToken load d z y → IsRoundOf load d z (after_rest d z y)
 rest_rounds load d z y l h =
     let a : Datacentre = walked d y (flushes d z) in
     let on_a = flushes_empty load d z y h in
@@ -63,25 +79,16 @@ rest_rounds load d z y l h =
     let on_g = posts_cover load d z f (record { round = on_f.0; heads = on_f.1 }) in
     let k : Datacentre = turned d g (Learn d) in
     let on_k = learn_tells load d z g on_g.0 on_g.1 in
-    let end : IsRoundOf load d z k = record {
+    record {
       round = on_k.0.round;
       rounded = record { drained = on_k.0.drained; writes = no_open_writes load d k on_k.0.round.live on_k.0.drained; placed = on_k.0.placed; told = on_k.1 };
-    } in
-    let is : walked d y (rest_of_round d z) ≡ k =
-    walked-append d (flushes d z) (passes d z ++ ring d z ++ places d z ++ gossips d z ++ posts d z ++ Learn d ∷ []) y
-    ∙ walked-append d (passes d z) (ring d z ++ places d z ++ gossips d z ++ posts d z ++ Learn d ∷ []) a
-    ∙ walked-append d (ring d z) (places d z ++ gossips d z ++ posts d z ++ Learn d ∷ []) b
-    ∙ walked-append d (places d z) (gossips d z ++ posts d z ++ Learn d ∷ []) c
-    ∙ walked-append d (gossips d z) (posts d z ++ Learn d ∷ []) e
-    ∙ walked-append d (posts d z) (Learn d ∷ []) f in
-    subst (IsRoundOf load d z) (sym is) end
+    }
 
 -- A local round.
 pub round_rounds : (load : Workload) (d : ℕ) (z : Datacentre) → IsLive load d z → IsRoundOf load d z (walked d z (local_round d z))
 round_rounds load d z l =
-    let y : Datacentre = walked d z (clients z) in
-    subst (IsRoundOf load d z) (sym (walked-append d (clients z) (rest_of_round d z) z))
-    (rest_rounds load d z y l (clients_keep_token load d z z l (record { round = round_begins load d z l; token = refl })))
+    subst (IsRoundOf load d z) (sym (round_is d z))
+    (rest_rounds load d z (walked d z (clients z)) l (clients_keep_token load d z z l (record { round = round_begins load d z l; token = refl })))
 
 pub live_at : (load : Workload) (d : ℕ) (z : Stages) → d < load.dcs → IsStanding load z → IsLive load d (datacentre_at z d)
 live_at load d z within h = record { within = within; stages = z; standing = h; at = refl }
