@@ -1,16 +1,17 @@
 -- A further local round: every session that waits goes on.
-use Rattle.std.proofs.Common.{◌≡◌, ◌≢◌, ◌⊎◌, ℕ, zero, suc, ◌+◌, ◌-◌, ◌%◌, mod-lt, ◌<◌, ◌≤◌, true, false, Bool, eqb, ltb, List, [], ◌∷◌, ◌++◌, length, map, drop, get_or, set, refl, ap, ap₂, sym, subst, ◌∙◌, inl, inr, arith, Option, Some, None, slice_get}
+use Rattle.std.proofs.Common.{◌≡◌, ◌≢◌, ◌⊎◌, ℕ, zero, suc, ◌+◌, ◌-◌, ◌%◌, mod-lt, ◌<◌, ◌≤◌, true, false, Bool, eqb, ltb, List, [], ◌∷◌, ◌++◌, length, map, drop, get_or, set, refl, ap, ap₂, sym, subst, ◌∙◌, inl, inr, arith, Option, Some, None, slice_get, unwrap_or}
 use Rattle.std.specs.List.{All, Contains, find, sum_by, sum, list_any}
-use Rattle.std.proofs.lemmas.List.{length-map, drop_all, get_or_default}
+use Rattle.std.proofs.lemmas.List.{length-map, get_or-map, drop_all, get_or_default}
 use Rattle.std.proofs.lemmas.List.Elements.{All-get_or, All-contains}
 use Rattle.std.proofs.lemmas.List.Sums.{sum_by-cons}
 use Rattle.std.proofs.lemmas.Bool.{cases_lt, eq-eqb, ltb-true}
+use Rattle.causal_deps.specs.declared.record.Item.{Item}
+use Rattle.causal_deps.specs.declared.record.Record.{Record}
 use Rattle.causal_deps.proofs.Lists.{slice_get_some}
 use Rattle.abstract_log.specs.declared.command.Command.{Command}
 use Rattle.abstract_log.specs.declared.command.Workload.{Workload}
 use Rattle.abstract_log.specs.declared.script.Step.{Step}
 use Rattle.abstract_log.specs.declared.script.Step.TheVariants.{Client}
-use Rattle.abstract_log.specs.declared.script.Sizes.{Sizes}
 use Rattle.abstract_log.specs.declared.world.Standing.{Standing}
 use Rattle.abstract_log.specs.declared.world.World.{World}
 use Rattle.abstract_log.specs.Worlds.{log_of, plan_of, standing_of}
@@ -32,10 +33,10 @@ use Rattle.settling_laws.proofs.ClientTurns.{IsClientTurn, session_at, no_sessio
 use Rattle.settling_laws.proofs.Members.{GoesTo}
 use Rattle.settling_laws.proofs.Rounding.{IsInRound, round_begins, round_goes}
 use Rattle.settling_laws.proofs.Gathering.{IsWithToken, IsClientOf, client_at, client_keeps_token}
-use Rattle.settling_laws.proofs.LocalRound.{IsRoundOf, after_rest, round_is, rest_rounds, round_rounds}
+use Rattle.settling_laws.proofs.LocalRound.{IsRoundOf, after_rest, round_is, rest_same, rest_rounds, round_rounds}
 
 -- what is left to a session with an unanswered command, and to one without
-left_some : (load : Workload) (sts : List Standing) (log : _) (d low : ℕ) (x : Session) → IsAsFar load sts log d low x → x.standing.answered < length x.commands → 1 ≤ left_to x
+left_some : (load : Workload) (sts : List Standing) (log : List Record) (d low : ℕ) (x : Session) → IsAsFar load sts log d low x → x.standing.answered < length x.commands → 1 ≤ left_to x
 left_some load sts log d low x far behind =
     let next = slice_get_some x.commands x.standing.answered behind in
     omega (arith, drop_next work_of x.commands x.standing.answered next.0 next.1, found_few load sts log d low x next.0 far next.1)
@@ -45,11 +46,8 @@ left_none x done = omega (arith, ap (sum_by work_of) (drop_all x.standing.answer
 
 -- what holds of every indexer holds of a tag's
 home_has : (P : Indexer → Type 0) (z : Datacentre) (tag : List ℕ) → 0 < length z.indexers → ((i : ℕ) → i < length z.indexers → (indexer_at z.indexers i).number ≡ i) → All P z.indexers → P (home_of z tag)
-home_has P z tag some numbered all = at (find test z.indexers) refl
+home_has P z tag some numbered all = at (find (λ (i : Indexer). eqb i.number (sum tag % length z.indexers)) z.indexers) refl
   where
-    test : Indexer → Bool
-    test i = eqb i.number (sum tag % length z.indexers)
-
     at : (o : Option Indexer) → find (λ (i : Indexer). eqb i.number (sum tag % length z.indexers)) z.indexers ≡ o → P (home_of z tag)
     at None is =
         let k : ℕ = sum tag % length z.indexers in
@@ -92,7 +90,7 @@ record IsToldRound (load : Workload) (d : ℕ) (z y : Datacentre) : Type 0 where
   pub token : IsWithToken load d z y
   pub told : IsAllTold d y
 
-told_beside : (d : ℕ) (y : Datacentre) (ss : List Session) (bs : List (List _)) → IsAllTold d y → IsAllTold d (record y { sessions = ss; batchers = bs })
+told_beside : (d : ℕ) (y : Datacentre) (ss : List Session) (bs : List (List Item)) → IsAllTold d y → IsAllTold d (record y { sessions = ss; batchers = bs })
 told_beside d y ss bs h = record { heads = h.heads; covered = h.covered; learnt = h.learnt; own = h.own }
 
 module _ (load : Workload) (d : ℕ) (z : Datacentre) (l : IsLive load d z) where
@@ -171,14 +169,55 @@ module _ (load : Workload) (d : ℕ) (z : Datacentre) (l : IsLive load d z) wher
       let begins : IsToldRound load d z z = record { token = record { round = round_begins load d z l; token = refl }; told = told } in
       (all.stays z begins, λ k behind. all.makes z k begins (k, behind.0, omega arith, behind))
 
--- The rest of the round by sizes and token alone.
-rest_same : (d : ℕ) (z y v : Datacentre) → sizes_of y ≡ sizes_of z → y.token.at ≡ z.token.at → after_rest d y v ≡ after_rest d z v
-rest_same d z y v sizes at = ap₂ (λ s a. after_rest d (like s a) v) sizes at
-  where
-    like : Sizes → ℕ → Datacentre
-    like s a = z
-
 -- A local round of a datacentre where all is told: every session that waits goes on.
 pub record IsAnsweringRound (load : Workload) (d : ℕ) (z y : Datacentre) : Type 0 where
   pub of : IsRoundOf load d z y
   pub less : (k : ℕ) → k < length z.sessions → (session_at z.sessions k).standing.answered < length (session_at z.sessions k).commands → left_to (session_at y.sessions k) < left_to (session_at z.sessions k)
+
+pub answering_round : (load : Workload) (d : ℕ) (z : Datacentre) → IsLive load d z → IsAllTold d z → IsAnsweringRound load d z (walked d z (local_round d z))
+answering_round load d z l told =
+    let y : Datacentre = walked d z (clients z) in
+    let e : Datacentre = walked d z (local_round d z) in
+    let moved = clients_move load d z l told in
+    let live : IsLive load d y = moved.0.token.round.live in
+    let is : after_rest d y y ≡ e = rest_same d z y y moved.0.token.round.goes.members.sizes (ap (λ (t : TokenState). t.at) moved.0.token.token) ∙ sym (round_is d z) in
+    let later : IsRoundOf load d y e = subst (IsRoundOf load d y) is (rest_rounds load d y y live (record { round = round_begins load d y live; token = refl })) in
+    let of : IsRoundOf load d z e = round_rounds load d z l in
+    record {
+      of = of;
+      less = λ k within behind. moved_less (session_at z.sessions k) (session_at e.sessions k) (of.rounded.writes k no_session (omega (arith, within, sessions_stay load d z l e of.round)))
+          (moves_still (session_at z.sessions k) (session_at y.sessions k) (session_at e.sessions k) (moved.0.token.round.goes.sessions k) (moved.1 k (within, behind)) (later.round.goes.sessions k));
+    }
+
+-- sums over lists of one length, term by term
+pub sum_less : {X : Type 0} (f : X → ℕ) (xs ys : List X) (e : X) → length ys ≡ length xs → ((k : ℕ) → k < length xs → f (get_or ys k e) ≤ f (get_or xs k e)) → sum_by f ys ≤ sum_by f xs
+sum_less f [] [] e same each = omega arith
+sum_less f [] (y ∷ ys) e same each = absurd (omega (arith, same))
+sum_less f (x ∷ xs) [] e same each = absurd (omega (arith, same))
+sum_less f (x ∷ xs) (y ∷ ys) e same each =
+    omega (arith, each 0 (omega arith), sum_less f xs ys e (omega (arith, same)) (λ k within. each (suc k) (omega (arith, within))), sum_by-cons f x xs, sum_by-cons f y ys)
+
+pub sum_fewer : {X : Type 0} (f : X → ℕ) (xs ys : List X) (e : X) (i : ℕ) → length ys ≡ length xs → ((k : ℕ) → k < length xs → f (get_or ys k e) ≤ f (get_or xs k e)) → i < length xs → f (get_or ys i e) < f (get_or xs i e) → sum_by f ys < sum_by f xs
+sum_fewer f [] ys e i same each inside less = absurd (omega (arith, inside))
+sum_fewer f (x ∷ xs) [] e i same each inside less = absurd (omega (arith, same))
+sum_fewer f (x ∷ xs) (y ∷ ys) e zero same each inside less =
+    omega (arith, less, sum_less f xs ys e (omega (arith, same)) (λ k within. each (suc k) (omega (arith, within))), sum_by-cons f x xs, sum_by-cons f y ys)
+sum_fewer f (x ∷ xs) (y ∷ ys) e (suc i) same each inside less =
+    omega (arith, each 0 (omega arith), sum_fewer f xs ys e i (omega (arith, same)) (λ k within. each (suc k) (omega (arith, within))) (omega (arith, inside)) less, sum_by-cons f x xs, sum_by-cons f y ys)
+
+-- No round raises what is left.
+pub round_no_more : (load : Workload) (d : ℕ) (z y : Datacentre) → IsLive load d z → IsInRound load d z y → left_at y ≤ left_at z
+round_no_more load d z y l h = sum_less left_to z.sessions y.sessions no_session (sessions_stay load d z l y h) (λ k within. (h.goes.sessions k).less)
+
+-- A round where all is told lowers what is left, if a session waits.
+pub round_fewer : (load : Workload) (d : ℕ) (z : Datacentre) → IsLive load d z → IsAllTold d z → has_unanswered z ≡ true → left_at (walked d z (local_round d z)) < left_at z
+round_fewer load d z l told some =
+    let y : Datacentre = walked d z (local_round d z) in
+    let round : IsAnsweringRound load d z y = answering_round load d z l told in
+    let found = any_gives is_unanswered z.sessions some in
+    let k : ℕ = found.1.0 in
+    let inside : k < length z.sessions = found.1.1 in
+    let is : session_at z.sessions k ≡ found.0 = get_or_default z.sessions k no_session found.0 inside ∙ found.1.2 in
+    let waits : found.0.standing.answered < length found.0.commands = ltb-true found.0.standing.answered (length found.0.commands) found.2 in
+    sum_fewer left_to z.sessions y.sessions no_session k (sessions_stay load d z l y round.of.round) (λ j within. (round.of.round.goes.sessions j).less) inside
+    (round.less k inside (subst (λ (x : Session). x.standing.answered < length x.commands) (sym is) waits))

@@ -117,7 +117,7 @@ module _ (z : Datacentre) (x : Session) (clear : Type 0) (y : Datacentre) (s : �
 pub still_turn : (z : Datacentre) (s : ℕ) → ((k : ℕ) → k < length z.sessions → (session_at z.sessions k).number ≡ s → ⊥) → IsClientTurn z s z
 still_turn z s none = record { rest = refl; batchers = refl; numbers = refl; commands = refl; goes = λ k. goes_same (session_at z.sessions k); moves = λ k within is. absurd (none k within is) }
 
-none_found : {X : Type 0} (test : X → Bool) (xs : List X) (k : ℕ) (e : X) → find test xs ≡ None → k < length xs → test (get_or xs k e) ≡ true → ⊥
+pub none_found : {X : Type 0} (test : X → Bool) (xs : List X) (k : ℕ) (e : X) → find test xs ≡ None → k < length xs → test (get_or xs k e) ≡ true → ⊥
 none_found test [] k e none within is = absurd (omega (arith, within))
 none_found test (x ∷ xs) zero e none within is = at (test x) is none
   where

@@ -14,3 +14,6 @@ pub mod Marks
 pub mod Gossiping
 pub mod Posting
 pub mod LocalRound
+pub mod Answering
+pub mod Rounds
+pub mod Loop

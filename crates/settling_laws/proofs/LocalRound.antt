@@ -1,12 +1,13 @@
 -- A local round, from its first turn to its last.
-use Rattle.std.proofs.Common.{◌≡◌, ◌≢◌, ℕ, zero, suc, ◌+◌, ◌%◌, ◌<◌, ◌≤◌, List, [], ◌∷◌, ◌++◌, length, map, refl, ap, sym, subst, ◌∙◌, arith}
+use Rattle.std.proofs.Common.{◌≡◌, ◌≢◌, ℕ, zero, suc, ◌+◌, ◌%◌, ◌<◌, ◌≤◌, List, [], ◌∷◌, ◌++◌, length, map, refl, ap, ap₂, sym, subst, ◌∙◌, arith}
 use Rattle.std.specs.List.{All, flat_map}
 use Rattle.std.proofs.lemmas.List.Elements.{All-nil, All-cons, All-append, All-weaker}
 use Rattle.abstract_log.specs.declared.command.Workload.{Workload}
 use Rattle.abstract_log.specs.declared.script.Step.{Step}
 use Rattle.abstract_log.specs.declared.script.Step.TheVariants.{Client, Flush, Pass, Stamp, Token, Place, Gossip, Post, Learn}
 use Rattle.flstore_rounds.specs.Heads.{head}
-use Rattle.stage_world.specs.Stages.{Datacentre, Stages}
+use Rattle.abstract_log.specs.declared.script.Sizes.{Sizes}
+use Rattle.stage_world.specs.Stages.{Datacentre, Stages, sizes_of}
 use Rattle.stage_world.specs.Opening.{numbered}
 use Rattle.stage_world.specs.Whole.{datacentre_at}
 use Rattle.stage_world.specs.Schedules.{IsStep, after_steps}
@@ -46,6 +47,19 @@ all_turns load d z l =
 -- the datacentre after the turns behind those of the clients
 abbrev pub after_rest : ℕ → Datacentre → Datacentre → Datacentre
 after_rest d z y = turned d (walked d (walked d (walked d (walked d (walked d (walked d y (flushes d z)) (passes d z)) (ring d z)) (places d z)) (gossips d z)) (posts d z)) (Learn d)
+
+-- the same by sizes and the token's place alone
+abbrev rest_by : ℕ → Sizes → ℕ → Datacentre → Datacentre
+rest_by d s at v =
+    let flushed : Datacentre = walked d v (numbered (Flush d) s.batchers) in
+    let passed : Datacentre = walked d flushed (numbered (λ f. Pass d f (f % s.queues)) s.filters) in
+    let stamped : Datacentre = walked d passed (flat_map (λ i. Stamp d ((at + i) % s.queues) ∷ Token d ∷ []) (below s.queues)) in
+    let placed : Datacentre = walked d stamped (flat_map (λ q. numbered (Place d q) s.maintainers) (below s.queues)) in
+    let told : Datacentre = walked d placed (flat_map (λ m. numbered (Gossip d m) s.maintainers) (below s.maintainers)) in
+    turned d (walked d told (flat_map (λ m. numbered (Post d m) s.indexers) (below s.maintainers))) (Learn d)
+
+pub rest_same : (d : ℕ) (z y v : Datacentre) → sizes_of y ≡ sizes_of z → y.token.at ≡ z.token.at → after_rest d y v ≡ after_rest d z v
+rest_same d z y v sizes at = ap₂ (λ s a. rest_by d s a v) sizes at
 
 pub round_is : (d : ℕ) (z : Datacentre) → walked d z (local_round d z) ≡ after_rest d z (walked d z (clients z))
 round_is d z =
