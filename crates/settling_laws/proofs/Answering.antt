@@ -1,38 +1,35 @@
 -- A further local round: every session that waits goes on.
-use Rattle.std.proofs.Common.{◌≡◌, ◌≢◌, ◌⊎◌, ℕ, zero, suc, ◌+◌, ◌-◌, ◌%◌, mod-lt, ◌<◌, ◌≤◌, true, false, Bool, eqb, ltb, List, [], ◌∷◌, ◌++◌, length, map, drop, get_or, set, refl, ap, ap₂, sym, subst, ◌∙◌, inl, inr, arith, Option, Some, None, slice_get, unwrap_or}
-use Rattle.std.specs.List.{All, Contains, find, sum_by, sum, list_any}
+use Rattle.std.proofs.Common.{◌≡◌, ◌⊎◌, ℕ, zero, suc, ◌+◌, ◌%◌, mod-lt, ◌<◌, ◌≤◌, true, eqb, List, [], ◌∷◌, length, map, get_or, refl, ap, sym, subst, ◌∙◌, inl, inr, arith, Option, Some, None, unwrap_or}
+use Rattle.std.specs.List.{All, find, sum_by, sum}
 use Rattle.std.proofs.lemmas.List.{length-map, get_or-map, drop_all, get_or_default}
-use Rattle.std.proofs.lemmas.List.Elements.{All-get_or, All-contains}
+use Rattle.std.proofs.lemmas.List.Elements.{All-contains}
 use Rattle.std.proofs.lemmas.List.Sums.{sum_by-cons}
 use Rattle.std.proofs.lemmas.Bool.{cases_lt, eq-eqb, ltb-true}
 use Rattle.causal_deps.specs.declared.record.Item.{Item}
 use Rattle.causal_deps.specs.declared.record.Record.{Record}
 use Rattle.causal_deps.proofs.Lists.{slice_get_some}
-use Rattle.abstract_log.specs.declared.command.Command.{Command}
 use Rattle.abstract_log.specs.declared.command.Workload.{Workload}
 use Rattle.abstract_log.specs.declared.script.Step.{Step}
 use Rattle.abstract_log.specs.declared.script.Step.TheVariants.{Client}
 use Rattle.abstract_log.specs.declared.world.Standing.{Standing}
-use Rattle.abstract_log.specs.declared.world.World.{World}
-use Rattle.abstract_log.specs.Worlds.{log_of, plan_of, standing_of}
-use Rattle.flstore_rounds.specs.Heads.{Pair, head}
+use Rattle.abstract_log.specs.Worlds.{log_of, standing_of}
+use Rattle.flstore_rounds.specs.Heads.{head}
 use Rattle.toid_filter.proofs.Tests.{any_gives}
 use Rattle.token_queue.specs.Queues.{TokenState}
-use Rattle.stage_world.specs.Stages.{Datacentre, Session, Indexer, no_indexer, sizes_of, vector_at, indexer_at}
-use Rattle.stage_world.specs.StandsFor.{StandsAt, IsAt, IsAsFar, IsPinned, keys_of, numbers_of}
+use Rattle.stage_world.specs.Stages.{Datacentre, Session, Indexer, no_indexer, indexer_at}
+use Rattle.stage_world.specs.StandsFor.{StandsAt, IsAt, IsAsFar}
 use Rattle.stage_world.specs.MoreTurns.{home_of}
 use Rattle.stage_world.specs.ClientTurns.{top_for}
 use Rattle.stage_world.specs.Settling.{clients, local_round, is_unanswered, has_unanswered}
 use Rattle.stage_world.proofs.LookUps.{find_tells}
-use Rattle.settling_laws.specs.Rounds.{IsAllTold, IsRounded, HasNoOpenWrite, work_of, left_to, left_at}
-use Rattle.settling_laws.proofs.Live.{IsTurnAt, IsLive, turned, walked, stands_at}
-use Rattle.settling_laws.proofs.Walks.{Makes, Some_below, makes_none, makes_more, makes_append, makes_turn}
-use Rattle.settling_laws.proofs.Progress.{GoesOn, Moves, goes_both, moves_later, moves_still, moved_less, drop_next}
+use Rattle.settling_laws.specs.Rounds.{IsAllTold, work_of, left_to, left_at}
+use Rattle.settling_laws.proofs.Live.{IsLive, turned, walked, stands_at}
+use Rattle.settling_laws.proofs.Walks.{Makes, makes_none, makes_more, makes_append, makes_turn}
+use Rattle.settling_laws.proofs.Progress.{Moves, moves_later, moves_still, moved_less, drop_next}
 use Rattle.settling_laws.proofs.ClientSteps.{IsClear}
 use Rattle.settling_laws.proofs.ClientTurns.{IsClientTurn, session_at, no_session, client_turns, found_few, none_found}
-use Rattle.settling_laws.proofs.Members.{GoesTo}
-use Rattle.settling_laws.proofs.Rounding.{IsInRound, round_begins, round_goes}
-use Rattle.settling_laws.proofs.Gathering.{IsWithToken, IsClientOf, client_at, client_keeps_token}
+use Rattle.settling_laws.proofs.Rounding.{IsInRound, round_begins}
+use Rattle.settling_laws.proofs.Gathering.{IsWithToken, IsClientOf, client_keeps_token}
 use Rattle.settling_laws.proofs.LocalRound.{IsRoundOf, after_rest, round_is, rest_same, rest_rounds, round_rounds}
 
 -- what is left to a session with an unanswered command, and to one without
@@ -61,10 +58,10 @@ home_has P z tag some numbered all = at (find (λ (i : Indexer). eqb i.number (s
 -- where all is told, nothing holds up a session
 clear_where_told : (load : Workload) (d : ℕ) (z : Datacentre) (l : IsLive load d z) (told : IsAllTold d z) (x : Session) → IsAsFar l.standing.world.workload l.standing.world.sessions (log_of l.standing.world d) d z.floor x → IsClear z (top_for z x.number) x
 clear_where_told load d z l told x far = (
-    omega (arith, top_is, seen, whole),
-    omega (arith, top_is, h.aware.floor, whole),
-    λ tag. omega (arith, top_is, covered tag),
-    λ s tag is. omega (arith, (far.pinned s is).within, covered tag, whole)
+  omega (arith, top_is, seen, whole),
+  omega (arith, top_is, h.aware.floor, whole),
+  λ tag. omega (arith, top_is, covered tag),
+  λ s tag is. omega (arith, (far.pinned s is).within, covered tag, whole),
 )
   where
     h : StandsAt l.standing.world d z

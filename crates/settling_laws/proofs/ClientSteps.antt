@@ -1,12 +1,9 @@
 -- The turn of a session: what it changes, and when the session goes on.
-use Rattle.std.proofs.Common.{◌≡◌, ◌≢◌, ◌⊎◌, ℕ, zero, suc, ◌+◌, ◌-◌, ◌%◌, ◌<◌, ◌≤◌, Bool, true, false, cond, ltb, eqb, List, [], ◌∷◌, ◌++◌, length, map, drop, get_or, set, refl, ap, ap₂, sym, subst, ◌∙◌, inl, inr, arith, Option, Some, None, slice_get}
-use Rattle.std.specs.List.{All, AllPairs, Contains, find, sum_by}
+use Rattle.std.proofs.Common.{◌≡◌, ◌⊎◌, ℕ, zero, suc, ◌+◌, ◌%◌, ◌<◌, ◌≤◌, Bool, true, false, cond, ltb, eqb, List, [], ◌∷◌, ◌++◌, length, refl, ap, ap₂, sym, ◌∙◌, inl, inr, arith, Option, Some, None, slice_get}
 use Rattle.std.specs.Option.{option_map_or}
-use Rattle.std.proofs.lemmas.List.{length_push, length-set, length-map, get_or-map}
-use Rattle.std.proofs.lemmas.Option.{slice_get_past, slice_get_within}
-use Rattle.std.proofs.lemmas.Bool.{cases_lt, cases_eq, cond_both, eqb-true, eqb-false, ltb-true, ltb-false, eq-eqb, ne_eqb, cond-true, cond-false}
+use Rattle.std.proofs.lemmas.List.{length_push, length-set}
+use Rattle.std.proofs.lemmas.Bool.{cond_both, ltb-true}
 use Rattle.causal_deps.specs.declared.record.Draft.{Draft}
-use Rattle.causal_deps.specs.declared.record.Item.{Item}
 use Rattle.causal_deps.specs.declared.record.Item.TheVariants.{Local}
 use Rattle.abstract_log.specs.declared.command.Command.{Command}
 use Rattle.abstract_log.specs.declared.command.Command.TheVariants.{Append, Put, Get, Tx, Read as ReadCommand, Last as LastCommand}
@@ -14,7 +11,7 @@ use Rattle.abstract_log.specs.declared.answer.Answer.{Answer}
 use Rattle.abstract_log.specs.declared.answer.Answer.TheVariants.{Items, Read, Last}
 use Rattle.abstract_log.specs.declared.answer.Found.{Found}
 use Rattle.abstract_log.specs.declared.event.Event.TheVariants.{Submit}
-use Rattle.abstract_log.specs.declared.script.Outcome.TheVariants.{Absent as AbsentStep, Finished, Submitted, Below, Behind, Key}
+use Rattle.abstract_log.specs.declared.script.Outcome.TheVariants.{Absent as AbsentStep, Submitted, Below, Key}
 use Rattle.abstract_log.specs.Answers.{last_of}
 use Rattle.abstract_log.specs.Commands.{draft_of, is_write}
 use Rattle.flstore_rounds.specs.Heads.{head}
@@ -22,7 +19,7 @@ use Rattle.stage_world.specs.Stages.{Datacentre, Session, batcher_at}
 use Rattle.stage_world.specs.StandsFor.{keys_of}
 use Rattle.stage_world.specs.Turns.{Turned, quiet, at_session, begun, submitted}
 use Rattle.stage_world.specs.MoreTurns.{home_of}
-use Rattle.stage_world.specs.ClientTurns.{next_index, looked_up, replied, reading_at, found_more, behind_turn, found_turn, key_turn, reply_with, tagged_places, last_turn, shown_at, waiting_turn, look_turn, open_turn, and_then, top_for, begin_turn, client_of}
+use Rattle.stage_world.specs.ClientTurns.{next_index, looked_up, replied, reading_at, found_more, behind_turn, found_turn, key_turn, reply_with, tagged_places, last_turn, shown_at, waiting_turn, look_turn, open_turn, and_then, top_for, begin_turn}
 use Rattle.settling_laws.specs.Rounds.{work_of, left_to}
 use Rattle.settling_laws.proofs.Progress.{HasOpenWrite, GoesOn, Moves, goes_same, drop_next, write_keys}
 

@@ -1,15 +1,15 @@
 -- The turn of a client: what it leaves of a datacentre and of each of its sessions.
-use Rattle.std.proofs.Common.{◌≡◌, ◌≢◌, ℕ, zero, suc, ◌+◌, ◌<◌, ◌≤◌, Bool, true, false, cond, eqb, List, [], ◌∷◌, length, map, take, get_or, refl, ap, ap₂, sym, subst, ◌∙◌, inl, inr, arith, Option, Some, None, slice_get}
-use Rattle.std.specs.List.{All, AllPairs, Contains, find}
+use Rattle.std.proofs.Common.{◌≡◌, ℕ, zero, suc, ◌<◌, ◌≤◌, Bool, true, false, cond, eqb, List, [], ◌∷◌, length, map, take, get_or, refl, ap, ap₂, sym, subst, ◌∙◌, inl, inr, arith, Option, Some, None, slice_get}
+use Rattle.std.specs.List.{AllPairs, Contains, find}
 use Rattle.std.specs.Option.{option_map_or}
-use Rattle.std.proofs.lemmas.List.{length-map, get_or-map, get_or_past, get_or_default, length-take-le}
+use Rattle.std.proofs.lemmas.List.{length-map, get_or-map, get_or_past, get_or_default}
 use Rattle.std.proofs.lemmas.List.Elements.{All-get_or, All-contains}
-use Rattle.std.proofs.lemmas.Option.{slice_get_past, slice_get_within, get_or_from_slice_get, same_Some}
-use Rattle.std.proofs.lemmas.Bool.{cases_lt, cond_both, eqb-true, eqb-false, eq-eqb}
+use Rattle.std.proofs.lemmas.Option.{same_Some}
+use Rattle.std.proofs.lemmas.Bool.{cases_lt, cond_both, eqb-true, eq-eqb}
 use Rattle.causal_deps.specs.declared.record.Record.{Record}
 use Rattle.causal_deps.proofs.Lists.{Contains-slice_get}
 use Rattle.abstract_log.specs.declared.command.Command.{Command}
-use Rattle.abstract_log.specs.declared.command.Command.TheVariants.{Append, Put, Get, Tx, Read as ReadCommand, Last as LastCommand}
+use Rattle.abstract_log.specs.declared.command.Command.TheVariants.{Tx}
 use Rattle.abstract_log.specs.declared.command.SessionPlan.{SessionPlan}
 use Rattle.abstract_log.specs.declared.command.Workload.{Workload}
 use Rattle.abstract_log.specs.declared.answer.Found.{Found}
@@ -20,13 +20,12 @@ use Rattle.abstract_log.specs.Commands.{no_plan}
 use Rattle.abstract_log.specs.Fits.{FitsLimits, FitsPlan, FitsCommand}
 use Rattle.abstract_log.specs.Worlds.{nowhere, log_of, plan_of}
 use Rattle.stage_world.specs.Stages.{Datacentre, Session}
-use Rattle.stage_world.specs.StandsFor.{keys_of, numbers_of, IsAt, IsAsFar, IsPinned, StandsAt}
+use Rattle.stage_world.specs.StandsFor.{keys_of, numbers_of, IsAsFar, IsPinned}
 use Rattle.stage_world.specs.Turns.{quiet, at_session}
 use Rattle.stage_world.specs.ClientTurns.{open_turn, begin_turn, top_for, client_of, client_turn}
 use Rattle.stage_world.proofs.SessionLemmas.{numbers-at_session}
 use Rattle.stage_world.proofs.LookUps.{find_tells}
-use Rattle.settling_laws.specs.Rounds.{work_of, left_to}
-use Rattle.settling_laws.proofs.Live.{IsLive, stands_at, lawful_at}
+use Rattle.settling_laws.proofs.Live.{IsLive, stands_at}
 use Rattle.settling_laws.proofs.Progress.{GoesOn, Moves, goes_same}
 use Rattle.settling_laws.proofs.ClientSteps.{IsClear, IsStepOf, still_step, next_step}
 

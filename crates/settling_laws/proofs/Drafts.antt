@@ -1,8 +1,8 @@
 -- Where nothing is on its way but what must wait, no draft is, and so no write is open.
-use Rattle.std.proofs.Common.{◌≡◌, ℕ, ◌+◌, ◌<◌, ◌≤◌, true, false, Bool, cond, eqb, List, [], ◌∷◌, length, get_or, refl, ap, sym, subst, ◌∙◌, arith, Option, Some, None, slice_get}
+use Rattle.std.proofs.Common.{◌≡◌, ℕ, ◌+◌, true, false, Bool, eqb, List, [], ◌∷◌, get_or, refl, ap, sym, subst, ◌∙◌, arith, Some, None, slice_get}
 use Rattle.std.specs.List.{All, sum_by}
 use Rattle.std.specs.Option.{option_and_then}
-use Rattle.std.proofs.lemmas.List.Elements.{All-nil, All-cons, All-head, All-tail}
+use Rattle.std.proofs.lemmas.List.Elements.{All-head, All-tail}
 use Rattle.std.proofs.lemmas.List.Sums.{sum_by-cons}
 use Rattle.std.proofs.lemmas.Bool.{eq-eqb, cond-true}
 use Rattle.causal_deps.specs.declared.record.Record.{Record}
@@ -21,8 +21,7 @@ use Rattle.toid_filter.specs.Filters.{FilterState}
 use Rattle.token_queue.specs.Items.{is_ready}
 use Rattle.token_queue.specs.Queues.{QueueState}
 use Rattle.token_queue.proofs.ItemLemmas.{covering}
-use Rattle.stage_world.specs.Stages.{Datacentre, Session, is_draft_of, in_batchers, in_queues}
-use Rattle.toid_filter.specs.Sums.{in_held, in_out}
+use Rattle.stage_world.specs.Stages.{Datacentre, Session, is_draft_of}
 use Rattle.stage_world.specs.StandsFor.{StandsAt, IsAsFar, IsDue, open_draft, one_of, command_open, standing_in}
 use Rattle.stage_world.proofs.WorldLemmas.{IsOpen, open_tells}
 use Rattle.settling_laws.specs.Rounds.{IsDrained, HasNoOpenWrite}

@@ -1,7 +1,7 @@
 -- The first turns of a local round: the clients', and those that bring all items to the queues.
-use Rattle.std.proofs.Common.{◌≡◌, ◌⊎◌, ℕ, zero, suc, ◌+◌, ◌%◌, mod-lt, ◌<◌, ◌≤◌, true, ltb, ◌&&◌, List, [], ◌∷◌, ◌++◌, length, map, get_or, set, refl, ap, sym, subst, ◌∙◌, inl, inr, arith}
-use Rattle.std.specs.List.{All, Contains}
-use Rattle.std.proofs.lemmas.List.Elements.{All-get_or, All-from_get_or, All-map, All-contains}
+use Rattle.std.proofs.Common.{◌≡◌, ℕ, ◌%◌, mod-lt, ◌<◌, ltb, ◌&&◌, List, [], ◌∷◌, length, get_or, set, refl, ap, sym, subst, ◌∙◌, arith}
+use Rattle.std.specs.List.{All}
+use Rattle.std.proofs.lemmas.List.Elements.{All-from_get_or, All-map}
 use Rattle.std.proofs.lemmas.Bool.{lt-ltb}
 use Rattle.causal_deps.specs.declared.record.Item.{Item}
 use Rattle.abstract_log.specs.declared.command.Workload.{Workload}
@@ -9,9 +9,8 @@ use Rattle.abstract_log.specs.declared.script.Step.{Step}
 use Rattle.abstract_log.specs.declared.script.Step.TheVariants.{Client, Flush, Pass}
 use Rattle.abstract_log.specs.Worlds.{log_of}
 use Rattle.toid_filter.specs.Filters.{FilterState, filter_at, no_filter}
-use Rattle.token_queue.specs.Queues.{TokenState}
-use Rattle.stage_world.specs.Stages.{Datacentre, Session, batcher_at, queue_at}
-use Rattle.stage_world.specs.StandsFor.{IsAt, IsAsFar, StandsAt}
+use Rattle.stage_world.specs.Stages.{Datacentre, Session, batcher_at}
+use Rattle.stage_world.specs.StandsFor.{IsAt, IsAsFar}
 use Rattle.stage_world.specs.Turns.{flush_turn, flushed, pass_turn, passed_on}
 use Rattle.stage_world.specs.Settling.{clients, flushes, passes}
 use Rattle.settling_laws.proofs.Live.{IsTurnAt, IsLive, turned, walked, stands_at}
@@ -74,9 +73,11 @@ module _ (load : Workload) (d : ℕ) (z : Datacentre) where
 
   pub flushes_empty : (y : Datacentre) → IsWithToken load d z y → IsWithToken load d z (walked d y (flushes d z)) × AreFlushed (walked d y (flushes d z))
   flushes_empty y h =
-      let after : IsWithToken load d z (walked d y (flushes d z)) = all_flushed.stays y h in
-      (after, All-from_get_or (λ (b : List Item). b ≡ []) (walked d y (flushes d z)).batchers []
-      (λ i within. all_flushed.makes y i h (i, omega (arith, within, batchers_stay load d z (walked d y (flushes d z)) after.round), refl)))
+      let after : IsWithToken load d z (walked d y (flushes d z)) = all_flushed.stays y h in (
+        after,
+        All-from_get_or (λ (b : List Item). b ≡ []) (walked d y (flushes d z)).batchers []
+            (λ i within. all_flushed.makes y i h (i, omega (arith, within, batchers_stay load d z (walked d y (flushes d z)) after.round), refl)),
+      )
 
   -- and no batcher has an item
   record IsFlushed (y : Datacentre) : Type 0 where
@@ -116,6 +117,9 @@ module _ (load : Workload) (d : ℕ) (z : Datacentre) where
     pub passes_empty : (y : Datacentre) → IsWithToken load d z y → AreFlushed y → IsWithToken load d z (walked d y (passes d z)) × AreFlushed (walked d y (passes d z)) × HavePassedOn (walked d y (passes d z))
     passes_empty y h flat =
         let before : IsFlushed y = record { token = h; batchers = flat } in
-        let after : IsFlushed (walked d y (passes d z)) = all_passed.stays y before in
-        (after.token, after.batchers, All-from_get_or (λ (f : FilterState). f.out ≡ []) (walked d y (passes d z)).filters no_filter
-        (λ i within. all_passed.makes y i before (i, omega (arith, within, filters_stay load d z (walked d y (passes d z)) after.token.round), refl)))
+        let after : IsFlushed (walked d y (passes d z)) = all_passed.stays y before in (
+          after.token,
+          after.batchers,
+          All-from_get_or (λ (f : FilterState). f.out ≡ []) (walked d y (passes d z)).filters no_filter
+              (λ i within. all_passed.makes y i before (i, omega (arith, within, filters_stay load d z (walked d y (passes d z)) after.token.round), refl)),
+        )

@@ -1,9 +1,8 @@
 -- Every maintainer with every vector: each head is the length of the log.
-use Rattle.std.proofs.Common.{◌≡◌, ◌⊎◌, ℕ, zero, suc, ◌+◌, ◌<◌, ◌≤◌, max, ltb, ◌&&◌, List, [], ◌∷◌, length, get_or, set, refl, ap, sym, subst, ◌∙◌, inl, inr, arith}
-use Rattle.std.specs.List.{All, flat_map}
+use Rattle.std.proofs.Common.{◌≡◌, ℕ, ◌<◌, max, ltb, ◌&&◌, List, [], ◌∷◌, length, set, refl, ap, sym, subst, ◌∙◌, arith}
+use Rattle.std.specs.List.{All}
 use Rattle.std.proofs.lemmas.List.{get_or-set_same, length-set}
 use Rattle.std.proofs.lemmas.List.Elements.{All-get_or, All-from_get_or, All-set, All-weaker}
-use Rattle.std.proofs.lemmas.Bool.{cases_lt, cases_eq}
 use Rattle.causal_deps.specs.declared.record.Record.{Record}
 use Rattle.abstract_log.specs.declared.command.Workload.{Workload}
 use Rattle.abstract_log.specs.declared.script.Step.TheVariants.{Gossip}
@@ -19,7 +18,7 @@ use Rattle.stage_world.specs.Turns.{gossip_turn, gossiped}
 use Rattle.stage_world.specs.Opening.{numbered}
 use Rattle.stage_world.specs.Settling.{gossips}
 use Rattle.settling_laws.specs.Rounds.{IsDrained, IsAllPlaced}
-use Rattle.settling_laws.proofs.Live.{IsLive, turned, walked, stands_at}
+use Rattle.settling_laws.proofs.Live.{turned, walked, stands_at}
 use Rattle.settling_laws.proofs.Walks.{Makes, Some_below, makes_numbered, makes_flat, makes_turn}
 use Rattle.settling_laws.proofs.Placing.{longer_whole}
 use Rattle.settling_laws.proofs.Marks.{Knows, head_whole}
@@ -151,9 +150,11 @@ module _ (load : Workload) (d : ℕ) (z : Datacentre) where
   gossips_tell y h =
       let x : Datacentre = walked d y (gossips d z) in
       let after : IsPlacedRound load d z x = gossip_all.stays y h in
-      let stands_x : StandsAt after.round.live.standing.world d x = stands_at load d x after.round.live in
-      (after, All-from_get_or (λ (v : Pair). head v ≡ x.token.last) x.vectors (blank no_epochs)
-      (λ k in_k. head_whole after.round.live.standing.world d x stands_x after.placed (vector_at x.vectors k)
-      (All-get_or (IsTruePair x.token.epochs (IsFilledIn x.maintainers)) x.vectors k (blank no_epochs) in_k stands_x.heads)
-      (λ m in_m. gossip_all.makes y (m, k) h
-      (m, omega (arith, in_m, maintainers_stay load d z x after.round), (k, omega (arith, in_k, stands_x.members.vectors, maintainers_stay load d z x after.round), (refl, refl))))))
+      let stands_x : StandsAt after.round.live.standing.world d x = stands_at load d x after.round.live in (
+        after,
+        All-from_get_or (λ (v : Pair). head v ≡ x.token.last) x.vectors (blank no_epochs)
+            (λ k in_k. head_whole after.round.live.standing.world d x stands_x after.placed (vector_at x.vectors k)
+            (All-get_or (IsTruePair x.token.epochs (IsFilledIn x.maintainers)) x.vectors k (blank no_epochs) in_k stands_x.heads)
+            (λ m in_m. gossip_all.makes y (m, k) h
+            (m, omega (arith, in_m, maintainers_stay load d z x after.round), (k, omega (arith, in_k, stands_x.members.vectors, maintainers_stay load d z x after.round), (refl, refl))))),
+      )

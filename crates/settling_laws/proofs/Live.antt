@@ -1,10 +1,9 @@
 -- A datacentre of stages that stand for a lawful world, and the turns of a local round there.
-use Rattle.std.proofs.Common.{◌≡◌, ◌≢◌, ℕ, ◌<◌, List, [], ◌∷◌, ◌++◌, length, set, refl, ap, sym, subst, ◌∙◌, arith}
+use Rattle.std.proofs.Common.{◌≡◌, ◌≢◌, ℕ, ◌<◌, List, [], ◌∷◌, ◌++◌, length, refl, ap, sym, subst, ◌∙◌, arith}
 use Rattle.std.specs.List.{All}
 use Rattle.std.proofs.lemmas.List.{length-set, get_or-set_same, get_or-set_other}
 use Rattle.std.proofs.lemmas.List.Elements.{All-head, All-tail}
 use Rattle.abstract_log.specs.declared.command.Workload.{Workload}
-use Rattle.abstract_log.specs.declared.event.Event.{Event}
 use Rattle.abstract_log.specs.declared.script.Step.{Step}
 use Rattle.abstract_log.specs.declared.script.Step.TheVariants.{Client, Flush, Pass, Stamp, Token, Place, Gossip, Post, Learn}
 use Rattle.abstract_log.specs.declared.world.World.{World}
@@ -12,7 +11,7 @@ use Rattle.abstract_log.specs.Runs.{after_all}
 use Rattle.log_laws.specs.Lawful.{IsLawful}
 use Rattle.stage_world.specs.Stages.{Datacentre, Stages}
 use Rattle.stage_world.specs.StandsFor.{IsAt, StandsAt}
-use Rattle.stage_world.specs.Whole.{StandsFor, datacentre_at, nowhere_at, with_turn}
+use Rattle.stage_world.specs.Whole.{datacentre_at, nowhere_at, with_turn}
 use Rattle.stage_world.specs.Schedules.{IsStep, IsKept, turn_of, step_of, after_steps}
 use Rattle.stage_world.proofs.AllTurns.{step_kept}
 use Rattle.settling_laws.specs.Rounds.{IsStanding}

@@ -1,28 +1,26 @@
 -- A local round, from its first turn to its last.
-use Rattle.std.proofs.Common.{◌≡◌, ◌≢◌, ℕ, zero, suc, ◌+◌, ◌%◌, ◌<◌, ◌≤◌, List, [], ◌∷◌, ◌++◌, length, map, refl, ap, ap₂, sym, subst, ◌∙◌, arith}
+use Rattle.std.proofs.Common.{◌≡◌, ℕ, ◌+◌, ◌%◌, ◌<◌, [], ◌∷◌, ◌++◌, length, refl, ap, ap₂, sym, subst, ◌∙◌}
 use Rattle.std.specs.List.{All, flat_map}
 use Rattle.std.proofs.lemmas.List.Elements.{All-nil, All-cons, All-append, All-weaker}
 use Rattle.abstract_log.specs.declared.command.Workload.{Workload}
 use Rattle.abstract_log.specs.declared.script.Step.{Step}
-use Rattle.abstract_log.specs.declared.script.Step.TheVariants.{Client, Flush, Pass, Stamp, Token, Place, Gossip, Post, Learn}
-use Rattle.flstore_rounds.specs.Heads.{head}
+use Rattle.abstract_log.specs.declared.script.Step.TheVariants.{Flush, Pass, Stamp, Token, Place, Gossip, Post, Learn}
 use Rattle.abstract_log.specs.declared.script.Sizes.{Sizes}
 use Rattle.stage_world.specs.Stages.{Datacentre, Stages, sizes_of}
 use Rattle.stage_world.specs.Opening.{numbered}
 use Rattle.stage_world.specs.Whole.{datacentre_at}
-use Rattle.stage_world.specs.Schedules.{IsStep, after_steps}
+use Rattle.stage_world.specs.Schedules.{IsStep}
 use Rattle.stage_world.specs.Settling.{below, clients, flushes, passes, ring, places, gossips, posts, local_round}
-use Rattle.settling_laws.specs.Rounds.{HasSameMembers, IsDrained, IsAllPlaced, IsAllTold, IsRounded, IsStanding, IsChangedAt, IsSettledByRound}
-use Rattle.settling_laws.proofs.Live.{IsTurnAt, IsLive, IsWalk, turned, walked, walked-append, walk, turn_good, in_stages, stands_at}
+use Rattle.settling_laws.specs.Rounds.{HasSameMembers, IsRounded, IsStanding, IsSettledByRound}
+use Rattle.settling_laws.proofs.Live.{IsTurnAt, IsLive, IsWalk, turned, walked, walked-append, walk, turn_good, in_stages}
 use Rattle.settling_laws.proofs.Walks.{All-numbered, All-pieces}
-use Rattle.settling_laws.proofs.Members.{GoesTo}
 use Rattle.settling_laws.proofs.Rounding.{IsInRound, round_begins}
-use Rattle.settling_laws.proofs.Gathering.{IsClientOf, client_at, all_clients, IsWithToken, AreFlushed, HavePassedOn, clients_keep_token, flushes_empty, passes_empty}
+use Rattle.settling_laws.proofs.Gathering.{IsClientOf, client_at, all_clients, IsWithToken, clients_keep_token, flushes_empty, passes_empty}
 use Rattle.settling_laws.proofs.Ring.{ring_drains}
 use Rattle.settling_laws.proofs.Drafts.{no_open_writes}
-use Rattle.settling_laws.proofs.Placing.{IsStampedRound, places_fill}
-use Rattle.settling_laws.proofs.Gossiping.{IsPlacedRound, gossips_tell}
-use Rattle.settling_laws.proofs.Posting.{IsGossipedRound, posts_cover, learn_tells}
+use Rattle.settling_laws.proofs.Placing.{places_fill}
+use Rattle.settling_laws.proofs.Gossiping.{gossips_tell}
+use Rattle.settling_laws.proofs.Posting.{posts_cover, learn_tells}
 
 -- all turns of a local round are such turns
 pub all_turns : (load : Workload) (d : ℕ) (z : Datacentre) → IsLive load d z → All (IsTurnAt load d) (local_round d z)

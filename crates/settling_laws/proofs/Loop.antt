@@ -1,20 +1,20 @@
 -- The rounds of answering end.
-use Rattle.std.proofs.Common.{◌≡◌, ◌≢◌, ◌⊎◌, ℕ, zero, suc, ◌+◌, ◌<◌, ◌≤◌, true, false, Bool, List, [], ◌∷◌, ◌++◌, length, get_or, refl, ap, sym, subst, ◌∙◌, inl, inr, arith}
-use Rattle.std.specs.List.{All, Contains, filter, list_any, sum_by}
+use Rattle.std.proofs.Common.{◌≡◌, ℕ, zero, suc, ◌+◌, ◌<◌, ◌≤◌, true, false, Bool, List, length, refl, ap, sym, subst, ◌∙◌, inl, inr, arith}
+use Rattle.std.specs.List.{All}
 use Rattle.std.proofs.lemmas.Bool.{cases_lt, cases_Bool}
 use Rattle.std.proofs.lemmas.List.{get_or_default}
 use Rattle.std.proofs.lemmas.List.Elements.{All-nil, All-append}
 use Rattle.abstract_log.specs.declared.command.Workload.{Workload}
 use Rattle.abstract_log.specs.declared.script.Step.{Step}
 use Rattle.toid_filter.proofs.Tests.{any_gives}
-use Rattle.stage_world.specs.Stages.{Datacentre, Stages}
+use Rattle.stage_world.specs.Stages.{Stages}
 use Rattle.stage_world.specs.Whole.{datacentre_at, nowhere_at}
 use Rattle.stage_world.specs.Schedules.{IsStep, after_steps}
-use Rattle.stage_world.specs.Settling.{below, has_unanswered, is_answering, answering_rounds, after_passes, turns_of_passes, IsLoop}
+use Rattle.stage_world.specs.Settling.{has_unanswered, is_answering, answering_rounds, after_passes, turns_of_passes}
 use Rattle.settling_laws.specs.Rounds.{HasSameMembers, IsRounded, IsStanding, left_at, left_in, EndsAnswering}
 use Rattle.settling_laws.proofs.Live.{IsLive}
 use Rattle.settling_laws.proofs.Members.{same_members, members_both}
-use Rattle.settling_laws.proofs.LocalRound.{IsRoundOf, live_at, round_rounds}
+use Rattle.settling_laws.proofs.LocalRound.{live_at, round_rounds}
 use Rattle.settling_laws.proofs.Answering.{sum_less, sum_fewer, round_no_more, round_fewer}
 use Rattle.settling_laws.proofs.Rounds.{AreRoundsOf, rounds_are, rounded_at, after_steps-append}
 

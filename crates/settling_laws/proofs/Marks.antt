@@ -1,16 +1,16 @@
 -- Where every position of the log is filled, each maintainer's mark is above its own ones, and who knows all marks has the head at the log's end.
-use Rattle.std.proofs.Common.{◌≡◌, ◌⊎◌, ℕ, zero, suc, ◌+◌, ◌<◌, ◌≤◌, max, List, [], ◌∷◌, length, get_or, refl, ap, sym, subst, ◌∙◌, inl, inr, arith}
-use Rattle.std.specs.List.{All, sum_by}
+use Rattle.std.proofs.Common.{◌≡◌, ◌⊎◌, ℕ, suc, ◌<◌, ◌≤◌, List, [], ◌∷◌, length, get_or, refl, ap, sym, subst, ◌∙◌, inl, inr, arith}
+use Rattle.std.specs.List.{sum_by}
 use Rattle.std.proofs.lemmas.List.Elements.{All-get_or}
 use Rattle.std.proofs.lemmas.List.Sums.{sum_by-cons}
 use Rattle.std.proofs.lemmas.Bool.{cases_lt}
 use Rattle.causal_deps.specs.declared.record.Record.{Record}
 use Rattle.abstract_log.specs.declared.world.World.{World}
 use Rattle.abstract_log.specs.Worlds.{log_of}
-use Rattle.flstore_rounds.specs.Epochs.{EpochList, owner, last_epoch}
+use Rattle.flstore_rounds.specs.Epochs.{EpochList, owner}
 use Rattle.flstore_rounds.specs.Heads.{Pair, head, mark_at, IsTruePair, IsBelowMark}
 use Rattle.flstore_rounds.proofs.HeadLemmas.{head_is, head_most}
-use Rattle.maintainer.specs.Maintainers.{MaintainerState, IsOwnedBy, IsFilled, OwnsAll, Owns, mark_of, times_filled}
+use Rattle.maintainer.specs.Maintainers.{MaintainerState, IsFilled, OwnsAll, Owns, mark_of, times_filled}
 use Rattle.maintainer.proofs.MarkOf.{is_mark}
 use Rattle.maintainer.proofs.OwnLemmas.{owns_filled}
 use Rattle.stage_world.specs.Stages.{Datacentre, maintainer_at, no_maintainer, IsFilledIn}

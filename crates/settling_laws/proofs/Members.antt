@@ -1,29 +1,26 @@
 -- What each turn of a local round leaves as it was: the members, and that sessions go on.
-use Rattle.std.proofs.Common.{◌≡◌, ℕ, zero, suc, ◌+◌, ◌%◌, ◌<◌, ◌≤◌, Bool, ltb, eqb, ◌&&◌, cond, List, [], ◌∷◌, ◌++◌, length, map, drop, get_or, set, refl, ap, ap₂, sym, subst, ◌∙◌, inl, inr, arith}
-use Rattle.std.specs.List.{sum_by, fold}
+use Rattle.std.proofs.Common.{◌≡◌, ℕ, ◌+◌, Bool, ltb, eqb, ◌&&◌, cond, List, [], ◌∷◌, ◌++◌, length, map, refl, ap, ap₂, sym, subst, ◌∙◌, inl, inr, arith}
 use Rattle.std.proofs.lemmas.List.{length-set, length-map, get_or-map, get_or_past}
 use Rattle.std.proofs.lemmas.Bool.{cases_lt, cond_both}
 use Rattle.causal_deps.specs.declared.record.Record.{Record}
 use Rattle.causal_deps.specs.declared.record.Item.{Item}
 use Rattle.causal_deps.specs.declared.record.Item.TheVariants.{Local, External}
-use Rattle.abstract_log.specs.declared.command.Command.{Command}
 use Rattle.abstract_log.specs.declared.command.Workload.{Workload}
 use Rattle.abstract_log.specs.declared.script.Step.{Step}
 use Rattle.abstract_log.specs.declared.script.Step.TheVariants.{Client, Flush, Pass, Stamp, Token, Place, Gossip, Post, Learn}
 use Rattle.abstract_log.specs.declared.script.Outcome.TheVariants.{Absent, NoToken}
-use Rattle.flstore_rounds.specs.Heads.{joined}
 use Rattle.toid_filter.specs.Filters.{filter_at}
 use Rattle.maintainer.specs.Maintainers.{learned, moved_in}
 use Rattle.token_queue.specs.Queues.{tokenless, stamped_queue, outbox_for, without_outbox}
-use Rattle.stage_world.specs.Stages.{Datacentre, Session, sizes_of, batcher_at, queue_at, maintainer_at, indexer_at, vector_at, slot_of}
+use Rattle.stage_world.specs.Stages.{Datacentre, Session, sizes_of, batcher_at, queue_at, maintainer_at, indexer_at, slot_of}
 use Rattle.stage_world.specs.StandsFor.{numbers_of}
 use Rattle.stage_world.specs.Turns.{Turned, quiet, where_there, at_session, acknowledged, sessions_after, all_acknowledged, flush_turn, flushed, pass_turn, passed_on, stamped, stamp_turn, stamp_events, stamp_outcome, drained, token_turn, place_turn, placed_from, gossip_turn, gossiped}
 use Rattle.stage_world.specs.MoreTurns.{posted, posted_to, post_turn, learn_turn}
 use Rattle.stage_world.proofs.SessionLemmas.{numbers-at_session}
 use Rattle.stage_world.proofs.FlushTurn.{length-taken}
-use Rattle.settling_laws.specs.Rounds.{HasSameMembers, work_of, left_to}
+use Rattle.settling_laws.specs.Rounds.{HasSameMembers, work_of}
 use Rattle.settling_laws.proofs.Live.{IsTurnAt, IsLive, turned}
-use Rattle.settling_laws.proofs.Progress.{HasOpenWrite, GoesOn, goes_same, goes_both, drop_next, drop_less}
+use Rattle.settling_laws.proofs.Progress.{GoesOn, goes_same, goes_both, drop_next, drop_less}
 use Rattle.settling_laws.proofs.ClientTurns.{session_at, no_session, commands_of, commands-at_session, client_turns, IsClientTurn}
 
 pub same_members : (z : Datacentre) → HasSameMembers z z

@@ -1,13 +1,12 @@
 -- Every queue with every maintainer: all outboxes are emptied, and each position of the log is filled.
-use Rattle.std.proofs.Common.{◌≡◌, ◌⊎◌, ℕ, zero, suc, ◌+◌, ◌-◌, ◌/◌, ◌%◌, mod-lt, ◌<◌, ◌≤◌, Bool, true, false, cond, leb, ltb, eqb, ◌&&◌, List, [], ◌∷◌, ◌++◌, length, map, take, get_or, set, refl, ap, sym, subst, ◌∙◌, inl, inr, arith}
-use Rattle.std.specs.List.{All, sum_by, flat_map}
-use Rattle.std.proofs.lemmas.List.{get_or-set_same, get_or-set_other, get_or_past, length-set, take_all}
-use Rattle.std.proofs.lemmas.List.Elements.{All-nil, All-head, All-tail, All-get_or, All-from_get_or}
-use Rattle.std.proofs.lemmas.Bool.{cases_lt, cases_eq, cond_both, cond-true, lt-ltb, le-leb, ltb-true, ltb-false, and_from}
+use Rattle.std.proofs.Common.{◌≡◌, ◌⊎◌, ℕ, ◌-◌, ◌/◌, mod-lt, ◌<◌, ◌≤◌, cond, leb, ltb, ◌&&◌, List, [], ◌∷◌, length, map, get_or, set, refl, ap, sym, subst, ◌∙◌, inl, inr, arith}
+use Rattle.std.specs.List.{All}
+use Rattle.std.proofs.lemmas.List.{get_or-set_same, get_or-set_other, take_all}
+use Rattle.std.proofs.lemmas.List.Elements.{All-head, All-tail, All-get_or, All-from_get_or}
+use Rattle.std.proofs.lemmas.Bool.{cases_lt, cases_eq, cond_both, cond-true, le-leb, ltb-false, and_from}
 use Rattle.causal_deps.specs.declared.record.Record.{Record}
 use Rattle.abstract_log.specs.declared.command.Workload.{Workload}
 use Rattle.abstract_log.specs.declared.script.Step.TheVariants.{Place}
-use Rattle.abstract_log.specs.declared.world.World.{World}
 use Rattle.abstract_log.specs.Worlds.{log_of}
 use Rattle.flstore_rounds.specs.declared.epochs.Epoch.{Epoch}
 use Rattle.flstore_rounds.specs.Epochs.{EpochList, IsPrefix, IsEpochList, first_epoch, epoch_from, last_epoch, owner, longer, IsSettled}
@@ -16,14 +15,14 @@ use Rattle.maintainer.specs.Maintainers.{MaintainerState, learned, moved_in, Own
 use Rattle.maintainer.proofs.StateLemmas.{has_taken}
 use Rattle.token_queue.specs.declared.entry.Entry.{Entry}
 use Rattle.token_queue.specs.Queues.{QueueState, outbox_for, without_outbox, waiting, times_among}
-use Rattle.stage_world.specs.Stages.{Datacentre, queue_at, maintainer_at, no_queue, no_maintainer, slot_of, waiting_in, IsFilledIn}
+use Rattle.stage_world.specs.Stages.{Datacentre, queue_at, maintainer_at, no_queue, no_maintainer, slot_of, waiting_in}
 use Rattle.stage_world.specs.StandsFor.{StandsAt, IsDealtBy, position_in}
 use Rattle.stage_world.specs.Turns.{place_turn, placed_from}
 use Rattle.stage_world.specs.Opening.{numbered}
 use Rattle.stage_world.specs.Settling.{places}
 use Rattle.stage_world.proofs.ListLemmas.{All-set_at}
 use Rattle.settling_laws.specs.Rounds.{IsDrained, IsAllPlaced}
-use Rattle.settling_laws.proofs.Live.{IsLive, turned, walked, stands_at}
+use Rattle.settling_laws.proofs.Live.{turned, walked, stands_at}
 use Rattle.settling_laws.proofs.Walks.{Makes, Some_below, makes_numbered, makes_flat, makes_turn}
 use Rattle.settling_laws.proofs.Drafts.{sum_none}
 use Rattle.settling_laws.proofs.Rounding.{IsInRound, round_goes, queues_stay, maintainers_stay, there_is, both_there, at_set, at_put}
@@ -185,6 +184,8 @@ module _ (load : Workload) (d : ℕ) (z : Datacentre) where
   pub places_fill : (y : Datacentre) → IsStampedRound load d z y → IsStampedRound load d z (walked d y (places d z)) × IsAllPlaced (walked d y (places d z))
   places_fill y h =
       let x : Datacentre = walked d y (places d z) in
-      let after : IsStampedRound load d z x = place_all.stays y h in
-      (after, all_placed x after (λ q m in_q in_m. place_all.makes y (q, m) h
-      (q, omega (arith, in_q, queues_stay load d z x after.round), (m, omega (arith, in_m, maintainers_stay load d z x after.round), (refl, refl)))))
+      let after : IsStampedRound load d z x = place_all.stays y h in (
+        after,
+        all_placed x after (λ q m in_q in_m. place_all.makes y (q, m) h
+            (q, omega (arith, in_q, queues_stay load d z x after.round), (m, omega (arith, in_m, maintainers_stay load d z x after.round), (refl, refl)))),
+      )

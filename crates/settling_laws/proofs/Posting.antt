@@ -1,21 +1,18 @@
 -- Every maintainer with every indexer, and the table: all cover the whole log.
-use Rattle.std.proofs.Common.{◌≡◌, ◌⊎◌, ℕ, zero, suc, ◌+◌, ◌-◌, ◌<◌, ◌≤◌, true, false, Bool, cond, leb, ltb, ◌&&◌, max, List, [], ◌∷◌, length, map, take, get_or, set, refl, ap, sym, subst, ◌∙◌, inl, inr, arith}
-use Rattle.std.specs.List.{All, Contains, flat_map, filter, filter_map, fold, list_any}
+use Rattle.std.proofs.Common.{◌≡◌, ℕ, zero, suc, ◌<◌, ◌≤◌, true, false, Bool, cond, leb, ltb, ◌&&◌, [], ◌∷◌, length, take, set, refl, ap, sym, subst, ◌∙◌, arith}
+use Rattle.std.specs.List.{All, Contains, filter, filter_map, fold, list_any}
 use Rattle.std.proofs.lemmas.List.{get_or-set_same, take_all}
 use Rattle.std.proofs.lemmas.List.Elements.{All-get_or, All-from_get_or, All-contains}
 use Rattle.std.proofs.lemmas.List.Sums.{get_or-le-sum_by}
-use Rattle.std.proofs.lemmas.Bool.{cases_lt, cond_both, cond-false, and_parts, leb-true, ltb-true}
-use Rattle.std.proofs.lemmas.Grind.{common_steps}
+use Rattle.std.proofs.lemmas.Bool.{and_parts, leb-true}
 use Rattle.causal_deps.specs.declared.record.Record.{Record}
-use Rattle.causal_deps.specs.Counts.{entry_of}
 use Rattle.causal_deps.specs.Logs.{count_of}
 use Rattle.abstract_log.specs.declared.command.Workload.{Workload}
-use Rattle.abstract_log.specs.declared.script.Step.{Step}
 use Rattle.abstract_log.specs.declared.script.Step.TheVariants.{Post, Learn}
 use Rattle.abstract_log.specs.declared.world.World.{World}
 use Rattle.abstract_log.specs.Worlds.{log_of}
-use Rattle.flstore_rounds.specs.Epochs.{EpochList, IsPrefix, longer, owner}
-use Rattle.flstore_rounds.specs.Heads.{Pair, head, mark_at, with_own, IsTruePair}
+use Rattle.flstore_rounds.specs.Epochs.{EpochList, longer, owner}
+use Rattle.flstore_rounds.specs.Heads.{head, mark_at, with_own, IsTruePair}
 use Rattle.flstore_rounds.proofs.EpochLemmas.{prefix_refl}
 use Rattle.flstore_rounds.proofs.HeadLemmas.{head_below, below_mark}
 use Rattle.maintainer.specs.declared.slot.Slot.{Slot}
@@ -23,17 +20,16 @@ use Rattle.maintainer.specs.Maintainers.{MaintainerState, mark_of, times, times_
 use Rattle.maintainer.proofs.CountLemmas.{position_counts}
 use Rattle.toid_filter.proofs.Tests.{any_gives}
 use Rattle.stage_world.specs.Stages.{Datacentre, Indexer, maintainer_at, no_maintainer, indexer_at, no_indexer, vector_at, filled, IsFilledIn}
-use Rattle.stage_world.specs.StandsFor.{StandsAt, IsIndexed, position_in, gone_times}
-use Rattle.stage_world.specs.MoreTurns.{post_turn, posted, posted_to, row_in, row_from, learn_turn}
+use Rattle.stage_world.specs.StandsFor.{StandsAt, IsIndexed, gone_times}
+use Rattle.stage_world.specs.MoreTurns.{post_turn, posted, posted_to, row_in, row_from}
 use Rattle.stage_world.specs.Opening.{numbered}
 use Rattle.stage_world.specs.Settling.{posts}
 use Rattle.stage_world.proofs.StandsLemmas.{some_vector}
 use Rattle.settling_laws.specs.Rounds.{IsDrained, IsAllPlaced, IsAllTold}
-use Rattle.settling_laws.proofs.Live.{IsLive, turned, walked, stands_at}
+use Rattle.settling_laws.proofs.Live.{turned, walked, stands_at}
 use Rattle.settling_laws.proofs.Walks.{Makes, Some_below, makes_numbered, makes_flat, makes_turn}
 use Rattle.settling_laws.proofs.Marks.{Knows, head_whole}
 use Rattle.settling_laws.proofs.Gossiping.{IsPlacedRound, drained_beside, placed_beside, knows_own, knows_taken}
-use Rattle.settling_laws.proofs.Placing.{longer_whole}
 use Rattle.settling_laws.proofs.Rounding.{IsInRound, round_goes, maintainers_stay, indexers_stay, there_is, both_there, at_changed}
 
 -- In a round, with all drained and placed, and every head at the log's end.
@@ -167,12 +163,14 @@ module _ (load : Workload) (d : ℕ) (z : Datacentre) where
       let v : Datacentre = walked d y (posts d z) in
       let after : IsGossipedRound load d z v = post_all.stays y h in
       let u : World = after.round.round.live.standing.world in
-      let stands_v : StandsAt u d v = stands_at load d v after.round.round.live in
-      (after, All-from_get_or (λ (n : Indexer). head n.pair ≡ v.token.last) v.indexers no_indexer
-      (λ i in_i. head_whole u d v stands_v after.round.placed (indexer_at v.indexers i).pair
-      (All-get_or (λ (n : Indexer). IsTruePair v.token.epochs (IsFilledIn v.maintainers) n.pair × IsIndexed (log_of u d) (length v.indexers) n) v.indexers i no_indexer in_i stands_v.indexers).0
-      (λ m in_m. post_all.makes y (m, i) h
-      (m, omega (arith, in_m, maintainers_stay load d z v after.round.round), (i, omega (arith, in_i, indexers_stay load d z v after.round.round), (refl, refl))))))
+      let stands_v : StandsAt u d v = stands_at load d v after.round.round.live in (
+        after,
+        All-from_get_or (λ (n : Indexer). head n.pair ≡ v.token.last) v.indexers no_indexer
+            (λ i in_i. head_whole u d v stands_v after.round.placed (indexer_at v.indexers i).pair
+            (All-get_or (λ (n : Indexer). IsTruePair v.token.epochs (IsFilledIn v.maintainers) n.pair × IsIndexed (log_of u d) (length v.indexers) n) v.indexers i no_indexer in_i stands_v.indexers).0
+            (λ m in_m. post_all.makes y (m, i) h
+            (m, omega (arith, in_m, maintainers_stay load d z v after.round.round), (i, omega (arith, in_i, indexers_stay load d z v after.round.round), (refl, refl))))),
+      )
 
   -- The table learns the whole log.
   pub learn_tells : (y : Datacentre) → IsGossipedRound load d z y → All (λ i. head i.pair ≡ y.token.last) y.indexers
@@ -185,14 +183,16 @@ module _ (load : Workload) (d : ℕ) (z : Datacentre) where
       let after : StandsAt u d v = stands_at load d v round.live in
       let first : head (vector_at y.vectors 0) ≡ y.token.last = h.heads 0 _ (some_vector h.round.round.live.standing.world d y before) in
       let learnt : v.learnt ≡ v.token.last = omega (arith, first, before.below.learnt) in
-      let all : take v.learnt (log_of u d) ≡ log_of u d = take_all v.learnt (log_of u d) (omega (arith, learnt, after.counted.whole)) in
-      (record {
-        round = round;
-        drained = drained_beside y y.vectors y.indexers v.table v.learnt h.round.drained;
-        placed = placed_beside y y.vectors y.indexers v.table v.learnt h.round.placed;
-      }, record {
-        heads = h.heads;
-        covered = covered;
-        learnt = learnt;
-        own = λ g. after.aware.own g ∙ ap (λ log. count_of log g) all ∙ sym (after.counted.each g);
-      })
+      let all : take v.learnt (log_of u d) ≡ log_of u d = take_all v.learnt (log_of u d) (omega (arith, learnt, after.counted.whole)) in (
+        record {
+          round = round;
+          drained = drained_beside y y.vectors y.indexers v.table v.learnt h.round.drained;
+          placed = placed_beside y y.vectors y.indexers v.table v.learnt h.round.placed;
+        },
+        record {
+          heads = h.heads;
+          covered = covered;
+          learnt = learnt;
+          own = λ g. after.aware.own g ∙ ap (λ log. count_of log g) all ∙ sym (after.counted.each g);
+        },
+      )

@@ -1,5 +1,5 @@
 -- How far sessions are: what is left to each, and which goes on.
-use Rattle.std.proofs.Common.{◌≡◌, ◌⊎◌, ℕ, zero, suc, ◌+◌, ◌-◌, ◌<◌, ◌≤◌, true, false, List, [], ◌∷◌, length, drop, refl, ap, sym, subst, ◌∙◌, inl, inr, arith, Option, Some, None, slice_get}
+use Rattle.std.proofs.Common.{◌≡◌, ◌⊎◌, ℕ, zero, suc, ◌+◌, ◌<◌, ◌≤◌, true, false, List, [], ◌∷◌, length, drop, refl, ap, sym, subst, ◌∙◌, inl, inr, arith, Some, slice_get}
 use Rattle.std.specs.List.{sum_by}
 use Rattle.std.proofs.lemmas.List.Sums.{sum_by-cons}
 use Rattle.abstract_log.specs.declared.command.Command.{Command}
@@ -7,7 +7,7 @@ use Rattle.abstract_log.specs.declared.command.Command.TheVariants.{Append, Put,
 use Rattle.abstract_log.specs.Commands.{is_write}
 use Rattle.stage_world.specs.Stages.{Session}
 use Rattle.stage_world.specs.StandsFor.{keys_of}
-use Rattle.settling_laws.specs.Rounds.{HasNoOpenWrite, work_of, left_to}
+use Rattle.settling_laws.specs.Rounds.{HasNoOpenWrite, left_to}
 
 -- a write is open at the session, which looks nothing up
 pub record HasOpenWrite (x : Session) : Type 0 where

@@ -1,11 +1,11 @@
 -- The token once round the ring: every queue is emptied, and what is deferred may not be stamped.
-use Rattle.std.proofs.Common.{◌≡◌, ◌⊎◌, ℕ, zero, suc, ◌+◌, ◌-◌, ◌%◌, mod-lt, ◌<◌, ◌≤◌, Bool, true, false, cond, eqb, ltb, List, [], ◌∷◌, ◌++◌, length, get_or, set, refl, ap, sym, subst, ◌∙◌, inl, inr, arith, Option, Some, None}
-use Rattle.std.specs.List.{All, flat_map}
+use Rattle.std.proofs.Common.{◌≡◌, ℕ, zero, suc, ◌+◌, ◌-◌, ◌%◌, mod-lt, ◌<◌, ◌≤◌, false, cond, ltb, List, [], ◌∷◌, length, set, refl, ap, sym, subst, ◌∙◌, inl, inr, arith, Option, Some, None}
+use Rattle.std.specs.List.{All}
 use Rattle.std.specs.Option.{option_map_or}
 use Rattle.std.proofs.Math.Nat.{mod-add-mod, mod-eq_of_lt}
 use Rattle.std.proofs.lemmas.List.{get_or-set_same}
 use Rattle.std.proofs.lemmas.List.Elements.{All-nil, All-from_get_or}
-use Rattle.std.proofs.lemmas.Bool.{cases_lt, cond-true, lt-ltb, eq-eqb}
+use Rattle.std.proofs.lemmas.Bool.{cases_lt, lt-ltb, eq-eqb}
 use Rattle.causal_deps.specs.declared.record.Item.{Item}
 use Rattle.abstract_log.specs.declared.command.Workload.{Workload}
 use Rattle.abstract_log.specs.declared.script.Outcome.TheVariants.{NoToken}
@@ -13,17 +13,16 @@ use Rattle.abstract_log.specs.declared.script.Step.{Step}
 use Rattle.abstract_log.specs.declared.script.Step.TheVariants.{Stamp, Token}
 use Rattle.flstore_rounds.proofs.TurnLemmas.{IsTurn, turns_are}
 use Rattle.token_queue.specs.Items.{is_ready, record_from, first_out}
-use Rattle.token_queue.specs.Drain.{Drained, all_deferred, with_first, counts_with, drain_by_at_most, drain_by}
+use Rattle.token_queue.specs.Drain.{Drained, all_deferred, with_first, counts_with, drain_by_at_most}
 use Rattle.token_queue.specs.Queues.{TokenState, QueueState, tokenless, stamped_queue}
 use Rattle.token_queue.proofs.ListLemmas.{is_out, none_out}
 use Rattle.stage_world.specs.Stages.{Datacentre, queue_at, no_queue}
-use Rattle.stage_world.specs.StandsFor.{StandsAt}
 use Rattle.stage_world.specs.Turns.{quiet, stamp_turn, stamped, stamp_events, stamp_outcome, drained, drained_items, token_moved}
 use Rattle.stage_world.specs.Settling.{ring}
 use Rattle.settling_laws.specs.Rounds.{IsDrained}
 use Rattle.settling_laws.proofs.Live.{IsLive, turned, walked, stands_at}
 use Rattle.settling_laws.proofs.Walks.{along_flat}
-use Rattle.settling_laws.proofs.Rounding.{IsInRound, round_goes, queues_stay, there_is, at_set, at_put}
+use Rattle.settling_laws.proofs.Rounding.{IsInRound, round_goes, queues_stay, there_is, at_set}
 use Rattle.settling_laws.proofs.Gathering.{IsWithToken, AreFlushed, HavePassedOn}
 
 -- no item that is left may be stamped by the counts after it
@@ -139,10 +138,13 @@ module _ (load : Workload) (d : ℕ) (z : Datacentre) (l : IsLive load d z) wher
       let last : IsRound n x = along_flat IsRound d turn_at n y first round_step in
       let each : (j : ℕ) → j < length x.queues → IsStamped x (queue_at x.queues j) = λ j inside.
       let turn : IsTurn n j z.token.at ((j + n - z.token.at % n) % n) = turns_are n j z.token.at (omega (arith, inside, queues_stay load d z x last.round)) in
-      subst (λ k. IsStamped x (queue_at x.queues k)) turn.own (last.stamped ((j + n - z.token.at % n) % n) turn.few) in
-      (last.round, record {
-        batchers = last.batchers;
-        filters = last.filters;
-        queues = All-from_get_or (λ (q : QueueState). q.items ≡ []) x.queues no_queue (λ j inside. (each j inside).items);
-        deferred = last.deferred (omega (arith, some));
-      }, All-from_get_or (λ (q : QueueState). q.epochs ≡ x.token.epochs) x.queues no_queue (λ j inside. (each j inside).epochs))
+      subst (λ k. IsStamped x (queue_at x.queues k)) turn.own (last.stamped ((j + n - z.token.at % n) % n) turn.few) in (
+        last.round,
+        record {
+          batchers = last.batchers;
+          filters = last.filters;
+          queues = All-from_get_or (λ (q : QueueState). q.items ≡ []) x.queues no_queue (λ j inside. (each j inside).items);
+          deferred = last.deferred (omega (arith, some));
+        },
+        All-from_get_or (λ (q : QueueState). q.epochs ≡ x.token.epochs) x.queues no_queue (λ j inside. (each j inside).epochs),
+      )

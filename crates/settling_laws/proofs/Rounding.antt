@@ -1,5 +1,5 @@
 -- What holds along the turns of a local round.
-use Rattle.std.proofs.Common.{◌≡◌, ◌⊎◌, ℕ, zero, suc, ◌+◌, ◌%◌, ◌<◌, ◌≤◌, Bool, true, false, cond, ltb, eqb, ◌&&◌, List, [], ◌∷◌, length, get_or, set, refl, ap, sym, subst, ◌∙◌, inl, inr, arith}
+use Rattle.std.proofs.Common.{◌≡◌, ℕ, ◌<◌, Bool, true, ltb, ◌&&◌, List, [], ◌∷◌, length, get_or, set, ap, sym, subst, ◌∙◌, inl, inr, arith}
 use Rattle.std.specs.List.{All}
 use Rattle.std.proofs.lemmas.List.{get_or-set_same, get_or-set_other, get_or_past, length-set}
 use Rattle.std.proofs.lemmas.List.Elements.{All-head, All-tail}
@@ -8,8 +8,7 @@ use Rattle.abstract_log.specs.declared.command.Workload.{Workload}
 use Rattle.abstract_log.specs.declared.script.Sizes.{Sizes}
 use Rattle.abstract_log.specs.declared.script.Step.{Step}
 use Rattle.abstract_log.specs.declared.script.Outcome.TheVariants.{Absent}
-use Rattle.stage_world.specs.Stages.{Datacentre, sizes_of}
-use Rattle.stage_world.specs.StandsFor.{StandsAt}
+use Rattle.stage_world.specs.Stages.{Datacentre}
 use Rattle.stage_world.specs.Turns.{Turned, quiet, where_there}
 use Rattle.settling_laws.proofs.Live.{IsTurnAt, IsLive, turned, walked, live_turn}
 use Rattle.settling_laws.proofs.Members.{GoesTo, goes_nowhere, goes_far, turn_goes}

@@ -1,9 +1,8 @@
 -- Local rounds of several datacentres, one after another.
-use Rattle.std.proofs.Common.{◌≡◌, ◌≢◌, ◌⊎◌, ℕ, zero, suc, ◌+◌, ◌<◌, ◌≤◌, true, false, Bool, cond, List, [], ◌∷◌, ◌++◌, length, refl, ap, sym, subst, ◌∙◌, inl, inr, arith, append-nil}
+use Rattle.std.proofs.Common.{◌≡◌, ℕ, zero, suc, ◌<◌, ◌≤◌, true, false, Bool, cond, List, [], ◌∷◌, ◌++◌, length, refl, ap, sym, subst, ◌∙◌, inl, inr, arith, append-nil}
 use Rattle.std.specs.List.{All, filter, flat_map}
-use Rattle.std.proofs.lemmas.Bool.{cases_lt, cases_eq, cond_both, cond-true, cond-false}
+use Rattle.std.proofs.lemmas.Bool.{cases_eq, cond_both}
 use Rattle.std.proofs.lemmas.Grind.{flat_map-append}
-
 use Rattle.std.proofs.lemmas.List.Elements.{All-nil, All-append, All-weaker, filter-append}
 use Rattle.abstract_log.specs.declared.command.Workload.{Workload}
 use Rattle.abstract_log.specs.declared.script.Step.{Step}
@@ -12,7 +11,7 @@ use Rattle.stage_world.specs.Whole.{datacentre_at}
 use Rattle.stage_world.specs.Schedules.{IsStep, after_steps}
 use Rattle.stage_world.specs.Settling.{below, local_round, rounds}
 use Rattle.settling_laws.specs.Rounds.{IsStanding}
-use Rattle.settling_laws.proofs.Live.{IsTurnAt, IsLive, IsWalk, walked, walk, turn_good, in_stages, steps_stand}
+use Rattle.settling_laws.proofs.Live.{IsTurnAt, IsWalk, walked, walk, turn_good, in_stages, steps_stand}
 use Rattle.settling_laws.proofs.LocalRound.{all_turns, live_at}
 
 pub after_steps-append : (load : Workload) (ts us : List Step) (z : Stages) → after_steps load z (ts ++ us) ≡ after_steps load (after_steps load z ts) us

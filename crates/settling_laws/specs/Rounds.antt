@@ -1,5 +1,5 @@
 -- What a local round leaves of a datacentre, and how the rounds of answering end.
-use Rattle.std.specs.Prelude.{◌≡◌, ◌≢◌, ℕ, ◌+◌, ◌-◌, ◌<◌, ◌≤◌, true, false, List, [], length, map, drop, Some, slice_get, slice_index, sum_by, All}
+use Rattle.std.specs.Prelude.{◌≡◌, ◌≢◌, ℕ, ◌+◌, ◌-◌, ◌≤◌, true, false, List, [], length, map, drop, Some, slice_get, slice_index, sum_by, All}
 use Rattle.causal_deps.specs.Counts.{entry_of}
 use Rattle.abstract_log.specs.declared.command.Command.{Command}
 use Rattle.abstract_log.specs.declared.command.Workload.{Workload}
@@ -8,7 +8,6 @@ use Rattle.abstract_log.specs.declared.world.World.{World}
 use Rattle.abstract_log.specs.Commands.{is_write}
 use Rattle.flstore_rounds.specs.Heads.{head}
 use Rattle.log_laws.specs.Lawful.{IsLawful}
-use Rattle.maintainer.specs.Maintainers.{MaintainerState}
 use Rattle.token_queue.specs.Items.{is_ready}
 use Rattle.stage_world.specs.Stages.{Datacentre, Session, Stages, sizes_of, IsFilledIn}
 use Rattle.stage_world.specs.StandsFor.{keys_of, numbers_of}
