@@ -17,3 +17,5 @@ pub mod LocalRound
 pub mod Answering
 pub mod Rounds
 pub mod Loop
+pub mod Behind
+pub mod Errands
