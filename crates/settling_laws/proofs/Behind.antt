@@ -21,6 +21,8 @@ use Rattle.abstract_log.proofs.Writing.{IsSomeAnd_is}
 use Rattle.log_laws.specs.Lawful.{IsLawful}
 use Rattle.log_laws.proofs.Growth.{Gains, Grows, grows}
 use Rattle.stage_world.specs.Stages.{Stages}
+use Rattle.stage_world.specs.StandsFor.{StandsAt}
+use Rattle.stage_world.specs.Whole.{datacentre_at}
 use Rattle.stage_world.specs.Schedules.{IsStep, IsKept, step_of, after_steps}
 use Rattle.stage_world.proofs.Frames.{grows as tables_grow}
 use Rattle.stage_world.proofs.ReceiveTurn.{names_keep, names_come}
@@ -170,3 +172,15 @@ steps_lead load [] z good h = leads_nowhere load z h
 steps_lead load (t ∷ ts) z good h =
     let first : LeadsTo load z (step_of load z t).after h = step_leads load z t (All-head (IsStep load) t ts good) h in
     leads_both load z (step_of load z t).after (after_steps load (step_of load z t).after ts) h first (steps_lead load ts (step_of load z t).after (All-tail (IsStep load) t ts good) first.standing)
+
+-- each datacentre of them
+pub stands_here : (load : Workload) (z : Stages) (d : ℕ) → d < load.dcs → (h : IsStanding load z) → StandsAt h.world d (datacentre_at z d)
+stands_here load z d within h = h.stands.each d (omega (arith, within, ap (λ (l : Workload). l.dcs) h.workload))
+
+-- a record that its host has stays so
+pub nth_extends : (xs ys : List Record) (h t : ℕ) (r : Record) → Extends xs ys → nth_of xs h t ≡ Some r → nth_of ys h t ≡ Some r
+nth_extends xs ys h t r e is = ap (λ l. nth_of l h t) e.1 ∙ more e.0 xs is
+  where
+    more : (zs ws : List Record) → nth_of ws h t ≡ Some r → nth_of (ws ++ zs) h t ≡ Some r
+    more [] ws known = ap (λ l. nth_of l h t) (append-nil ws) ∙ known
+    more (z ∷ zs) ws known = ap (λ l. nth_of l h t) (sym (append_assoc ws (z ∷ []) zs)) ∙ more zs (ws ++ z ∷ []) (nth_of-push ws z h t r known)

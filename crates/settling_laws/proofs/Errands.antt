@@ -34,7 +34,7 @@ use Rattle.stage_world.specs.Settling.{Errand, sent_and_delivered}
 use Rattle.stage_world.proofs.ReceiveTurn.{names_come}
 use Rattle.settling_laws.specs.Rounds.{IsStanding}
 use Rattle.settling_laws.proofs.Live.{stands_at}
-use Rattle.settling_laws.proofs.Behind.{IsDueAt, IsBehind, LeadsTo, LeadsBy, step_leads, step_leads_by, leads_both}
+use Rattle.settling_laws.proofs.Behind.{IsDueAt, IsBehind, LeadsTo, LeadsBy, step_leads, step_leads_by, behind_both}
 use Rattle.settling_laws.proofs.LocalRound.{live_at}
 
 -- Between z and y only batchers and the table changed; there are as many batchers, and the table grew.
@@ -161,7 +161,7 @@ module _ (load : Workload) (z : Stages) (h : IsStanding load z) (d k e : ℕ) (i
 
   errand_done : IsErrandDone load z h d e m new
   errand_done =
-      let leads : LeadsTo load z new h = leads_both load z y new h stands_y (record { standing = by.standing; behind = by.behind }) in
+      let leads : LeadsTo load z new h = record { standing = by.standing; behind = behind_both h.world stands_y.standing.world by.standing.world stands_y.behind by.behind } in
       record {
         leads = leads;
         datacentres = length-set z.datacentres e (received (datacentre_at z e) 0 m);

@@ -19,3 +19,7 @@ pub mod Rounds
 pub mod Loop
 pub mod Behind
 pub mod Errands
+pub mod Stocks
+pub mod Exchange
+pub mod Arrivals
+pub mod Choosing

@@ -25,7 +25,7 @@ pub record Knows (t : EpochList) (ms : List (MaintainerState Record)) (m : ℕ) 
   pub mark : mark_of (maintainer_at ms m) ≤ mark_at v m
 
 -- where a sum is positive, a term is
-some_term : {X : Type 0} (f : X → ℕ) (xs : List X) (e : X) → 1 ≤ sum_by f xs → (i : ℕ) × (i < length xs) × (1 ≤ f (get_or xs i e))
+pub some_term : {X : Type 0} (f : X → ℕ) (xs : List X) (e : X) → 1 ≤ sum_by f xs → (i : ℕ) × (i < length xs) × (1 ≤ f (get_or xs i e))
 some_term f [] e some = absurd (omega arith)
 some_term f (x ∷ xs) e some = at (cases_lt 0 (f x)) (λ rest. some_term f xs e rest)
   where
