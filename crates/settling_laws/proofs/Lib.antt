@@ -23,3 +23,5 @@ pub mod Stocks
 pub mod Exchange
 pub mod Arrivals
 pub mod Choosing
+pub mod TellingPass
+pub mod Telling
