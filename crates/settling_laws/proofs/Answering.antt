@@ -33,12 +33,12 @@ use Rattle.settling_laws.proofs.Gathering.{IsWithToken, IsClientOf, client_keeps
 use Rattle.settling_laws.proofs.LocalRound.{IsRoundOf, after_rest, round_is, rest_same, rest_rounds, round_rounds}
 
 -- what is left to a session with an unanswered command, and to one without
-left_some : (load : Workload) (sts : List Standing) (log : List Record) (d low : ℕ) (x : Session) → IsAsFar load sts log d low x → x.standing.answered < length x.commands → 1 ≤ left_to x
+pub left_some : (load : Workload) (sts : List Standing) (log : List Record) (d low : ℕ) (x : Session) → IsAsFar load sts log d low x → x.standing.answered < length x.commands → 1 ≤ left_to x
 left_some load sts log d low x far behind =
     let next = slice_get_some x.commands x.standing.answered behind in
     omega (arith, drop_next work_of x.commands x.standing.answered next.0 next.1, found_few load sts log d low x next.0 far next.1)
 
-left_none : (x : Session) → length x.commands ≤ x.standing.answered → left_to x ≡ 0
+pub left_none : (x : Session) → length x.commands ≤ x.standing.answered → left_to x ≡ 0
 left_none x done = omega (arith, ap (sum_by work_of) (drop_all x.standing.answered x.commands done))
 
 -- what holds of every indexer holds of a tag's

@@ -18,7 +18,7 @@ use Rattle.log_laws.proofs.OnceLemmas.{done_kept, once_kept}
 use Rattle.log_laws.proofs.PresentLemmas.{present_kept}
 use Rattle.log_laws.proofs.LimitedRuns.{IsKept, all_laws}
 
-kept_of : (w : World) → IsLawful w → IsKept w
+pub kept_of : (w : World) → IsLawful w → IsKept w
 kept_of w h = record {
   steady = record {
     lawful = record { causal = h.causal; one_record = h.one_record; tables = record { by_owner = h.tables; by_log = h.own_rows }; gone = h.gone };

@@ -25,3 +25,5 @@ pub mod Arrivals
 pub mod Choosing
 pub mod TellingPass
 pub mod Telling
+pub mod TellingLoop
+pub mod Settled

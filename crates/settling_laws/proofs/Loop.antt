@@ -158,6 +158,10 @@ module _ (load : Workload) (z : Stages) (h : IsStanding load z) where
         members = λ d. members_both (datacentre_at z d) (datacentre_at (at n) d) (datacentre_at (at (suc n)) d) (so_far.members d) ((pass_at n).members d);
       }
 
+  -- the turns of any number of passes are steps that a script may have
+  pub answering_steps : (n : ℕ) → All (IsStep load) (turns_to n)
+  answering_steps n = (leads_to n).steps
+
   -- The loop of answering ends.
   pub answering_ends_at : EndsAnswering load z
   answering_ends_at =
