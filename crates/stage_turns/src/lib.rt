@@ -7,7 +7,6 @@
 
 mod client;
 mod collecting;
-mod commands;
 mod done;
 mod flushing;
 mod learning;
@@ -17,7 +16,8 @@ mod receiving;
 mod ring;
 mod sender_stock;
 mod sending;
-mod session;
+mod shelving;
+mod stage_shelf;
 mod stamping;
 mod stocking;
 mod telling;
@@ -32,6 +32,5 @@ pub use posting::post;
 pub use receiving::deliver;
 pub use ring::{holder, token};
 pub use sending::{SendDone, has_more, send};
-pub use session::Session;
 pub use stamping::{place_of, stamp};
 pub use telling::gossip;
