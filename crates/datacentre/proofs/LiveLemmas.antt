@@ -19,18 +19,14 @@ use Rattle.stage_world.specs.Turns.{Turned}
 use Rattle.stage_world.specs.MoreTurns.{message_of, receive_turn}
 use Rattle.stage_world.specs.Schedules.{turn_of}
 use Rattle.datacentre.specs.declared.parts.Parts.{Parts}
-use Rattle.datacentre.specs.declared.done.TurnDone.{TurnDone}
-use Rattle.datacentre.specs.Lent.{token_seen}
-use Rattle.datacentre.specs.Seen.{DatacentreState, IsWhole, StandsForALog, indexers_from, seen, state_of}
-use Rattle.datacentre.specs.Told.{told_by}
+use Rattle.stage_turns.specs.declared.done.TurnDone.{TurnDone}
+use Rattle.stage_turns.specs.Lent.{token_seen}
+use Rattle.datacentre.specs.Seen.{DatacentreState, IsWhole, StandsForALog, seen, state_of}
+use Rattle.stage_turns.specs.Told.{told_by}
 use Rattle.datacentre.specs.Turning.{IsPacketOf, IsTurned, MayTurn, Sends, TakesTurn}
 use Rattle.datacentre.proofs.WholeLinks.{told_all}
 
 -- how many indexers are seen
-as_many_indexers : (n : ℕ) (vs : List Pair) → length (indexers_from n vs) ≡ length vs
-as_many_indexers n [] = refl
-as_many_indexers n (v ∷ vs) = omega (arith, as_many_indexers (n + 1) vs)
-
 -- at most 16 of each kind
 pub record AreFew (p : Parts) : Type 0 where
   pub batchers : length p.batchers ≤ 16
@@ -47,7 +43,7 @@ are_few p log = record {
   filters = log.stands.members.ranges.filters.1;
   queues = omega (arith, log.stands.members.ranges.queues.1, length-map p.queues tokenless);
   maintainers = omega (arith, log.stands.members.ranges.maintainers.1, length-map p.maintainers (λ (y : MaintainerState Record). plain y));
-  indexers = omega (arith, log.stands.members.ranges.indexers.1, as_many_indexers 0 p.indexers);
+  indexers = log.stands.members.ranges.indexers.1;
   senders = log.stands.members.ranges.senders.1;
   holder = omega (arith, log.stands.members.ranges.queues.1, log.stands.members.holder);
 }
@@ -58,11 +54,12 @@ some_at false z x is = same_Some z x is
 
 -- what a turn leaves, of a datacentre whose stages are these
 
-takes : {E : Type 0} (result : Result TurnDone E) (p new : Parts) (d : ℕ) (b : Bool) (turned : Turned) → p.dc ≡ d → b ≡ is_err result → IfOk result (λ done. IsTurned p new done turned) → TakesTurn d turned result (state_of b new)
+takes : {E : Type 0} (result : Result TurnDone E) (p new : Parts) (d : ℕ) (b : Bool) (turned : Turned) → p.dc ≡ d → b ≡ is_err result → IfOk result (λ done. IsTurned p new done turned) → TakesTurn d (seen p) turned result (state_of b new)
 takes (Ok done) p new d b turned here is h = record {
   state = ap (λ c. state_of c new) is ∙ (λ i. record { dc = (h.here ∙ here) i; stages = Some (h.stages i) });
   outcome = h.outcome;
   events = h.events;
+  changed = h.changed;
 }
 takes (Err e) p new d b turned here is h = ap (λ c. cond c None (Some (seen new))) is
 
@@ -78,6 +75,7 @@ sends (Ok sent) p new d b k e here is h packet = (
     state = ap (λ c. state_of c new) is ∙ (λ i. record { dc = (h.here ∙ here) i; stages = Some (h.stages i) });
     outcome = h.outcome;
     events = h.events;
+    changed = h.changed;
   },
   packet,
 )
@@ -109,24 +107,23 @@ module _ (failed : Bool) (p : Parts) (s : DatacentreState) (view : state_of fail
   members_are b f q m i n x is in_b in_f in_q in_m in_i in_n =
       let queues : q ≡ length (seen p).queues = in_q ∙ sym (length-map p.queues tokenless) in
       let maintainers : m ≡ length (seen p).maintainers = in_m ∙ sym (length-map p.maintainers (λ (y : MaintainerState Record). plain y)) in
-      let indexers : i ≡ length (seen p).indexers = in_i ∙ sym (as_many_indexers 0 p.indexers) in
       let whole : record { batchers = b; filters = f; queues = q; maintainers = m; indexers = i; senders = n; receivers = p.receivers } ≡ sizes_of (seen p) =
-      λ j. record { batchers = in_b j; filters = in_f j; queues = queues j; maintainers = maintainers j; indexers = indexers j; senders = in_n j; receivers = p.receivers } in
+      λ j. record { batchers = in_b j; filters = in_f j; queues = queues j; maintainers = maintainers j; indexers = in_i j; senders = in_n j; receivers = p.receivers } in
       whole ∙ ap sizes_of (some_is x is)
 
   module _ {E : Type 0} (new : Parts) (b : Bool) (x : Datacentre) (is : s.stages ≡ Some x) where
     pub took : (result : Result TurnDone E) (step : Step) → b ≡ is_err result → IfOk result (λ done. IsTurned p new done (turn_of p.dc (seen p) step))
-        → TakesTurn s.dc (turn_of s.dc x step) result (state_of b new)
+        → TakesTurn s.dc x (turn_of s.dc x step) result (state_of b new)
     took result step fails h =
-        subst (λ z. TakesTurn s.dc (turn_of s.dc z step) result (state_of b new)) (some_is x is)
+        subst (λ z. TakesTurn s.dc z (turn_of s.dc z step) result (state_of b new)) (some_is x is)
         (takes result p new s.dc b (turn_of s.dc (seen p) step) here fails (subst (λ d. IfOk result (λ done. IsTurned p new done (turn_of d (seen p) step))) here h))
 
     pub received_it : (result : Result TurnDone E) (r : ℕ) (bytes : List ℕ) (m : Message) → b ≡ is_err result
         → ((a : Message) → SpellsMessage (length p.table.table) bytes a → IfOk result (λ done. IsTurned p new done (receive_turn p.dc (seen p) r a)))
-        → SpellsMessage (length x.table) bytes m → TakesTurn s.dc (receive_turn s.dc x r m) result (state_of b new)
+        → SpellsMessage (length x.table) bytes m → TakesTurn s.dc x (receive_turn s.dc x r m) result (state_of b new)
     received_it result r bytes m fails h spelled =
         let known : SpellsMessage (length p.table.table) bytes m = subst (λ (z : Datacentre). SpellsMessage (length z.table) bytes m) (sym (some_is x is)) spelled in
-        subst (λ z. TakesTurn s.dc (receive_turn s.dc z r m) result (state_of b new)) (some_is x is)
+        subst (λ z. TakesTurn s.dc z (receive_turn s.dc z r m) result (state_of b new)) (some_is x is)
         (takes result p new s.dc b (receive_turn s.dc (seen p) r m) here fails (subst (λ d. IfOk result (λ done. IsTurned p new done (receive_turn d (seen p) r m))) here (h m known)))
 
     pub sent_it : (result : Result (TurnDone × Option (List ℕ)) E) (k e : ℕ) → b ≡ is_err result

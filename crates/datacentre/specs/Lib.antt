@@ -1,11 +1,3 @@
-pub mod Lent
 pub mod Seen
-pub mod Stamping
-pub mod Flushing
-pub mod Clients
-pub mod Placing
-pub mod Telling
-pub mod Learning
-pub mod Told
-pub mod Rising
 pub mod Turning
+pub mod Leaving

@@ -10,8 +10,9 @@ use Rattle.record_codec.specs.Wire.{SpellsMessage}
 use Rattle.stage_world.specs.Turns.{Turned, quiet}
 use Rattle.stage_world.specs.MoreTurns.{message_of, names_of}
 use Rattle.stage_world.specs.Schedules.{turn_of}
+use Rattle.stage_world.specs.Idle.{TellsChange}
 use Rattle.datacentre.specs.declared.parts.Parts.{Parts}
-use Rattle.datacentre.specs.declared.done.TurnDone.{TurnDone}
+use Rattle.stage_turns.specs.declared.done.TurnDone.{TurnDone}
 use Rattle.datacentre.specs.Seen.{DatacentreState, IsWhole, StandsForALog, seen}
 
 -- The parts stand for some log.
@@ -19,27 +20,29 @@ pub record MayTurn (p : Parts) : Type 0 where
   pub whole : IsWhole p
   pub log : StandsForALog p.dc (seen p)
 
--- The parts are those that this turn leaves, and its outcome and events are answered.
+-- The parts are those that this turn leaves, its outcome and events are answered, and whether it changed something.
 pub record IsTurned (old new : Parts) (done : TurnDone) (turned : Turned) : Type 0 where
   pub stages : seen new ≡ turned.after
   pub here : new.dc ≡ old.dc
   pub whole : IsWhole new
   pub outcome : done.outcome ≡ turned.outcome
   pub events : done.events ≡ turned.events
+  pub changed : TellsChange done.changed (seen old) turned.after
 
--- A datacentre took this turn: its stages, the outcome and the events are the turn's.
-pub record TookTurn (d : ℕ) (turned : Turned) (done : TurnDone) (new : DatacentreState) : Type 0 where
+-- A datacentre with stages z took this turn: its stages, the outcome and the events are the turn's, and it is told whether z changed.
+pub record TookTurn (d : ℕ) (z : Datacentre) (turned : Turned) (done : TurnDone) (new : DatacentreState) : Type 0 where
   pub state : new ≡ record { dc = d; stages = Some turned.after }
   pub outcome : done.outcome ≡ turned.outcome
   pub events : done.events ≡ turned.events
+  pub changed : TellsChange done.changed z turned.after
 
 -- It failed: nothing is known of its stages from then on.
 abbrev pub HasFailed : DatacentreState → Type 0
 HasFailed new = new.stages ≡ None
 
 -- It took the turn, or memory was wanted and it has failed.
-abbrev pub TakesTurn : {E : Type 0} → ℕ → Turned → Result TurnDone E → DatacentreState → Type 0
-TakesTurn d turned result new = MatchResult result (λ done. TookTurn d turned done new) (λ _. HasFailed new)
+abbrev pub TakesTurn : {E : Type 0} → ℕ → Datacentre → Turned → Result TurnDone E → DatacentreState → Type 0
+TakesTurn d z turned result new = MatchResult result (λ done. TookTurn d z turned done new) (λ _. HasFailed new)
 
 -- what sender k answers, where its message to e is yet to go into the link
 abbrev pub send_told : ℕ → Datacentre → ℕ → ℕ → Turned
@@ -52,7 +55,7 @@ IsPacketOf d z k e packet = MatchOption packet (z.senders ≤ k) (λ bytes. (k <
 -- It took the turn of sender k and made its packet for e, or it has failed.
 abbrev pub Sends : {E : Type 0} → ℕ → Datacentre → ℕ → ℕ → Result (TurnDone × Option (List ℕ)) E → DatacentreState → Type 0
 Sends d z k e result new = MatchResult result
-    (λ sent. TookTurn d (turn_of d z (Send d k e)) sent.0 new × IsPacketOf d z k e sent.1)
+    (λ sent. TookTurn d z (turn_of d z (Send d k e)) sent.0 new × IsPacketOf d z k e sent.1)
     (λ _. HasFailed new)
 
 -- an append, a put or a read
@@ -79,8 +82,8 @@ IsBuilt z (Send d k e) = ⊥
 IsBuilt z (Deliver d e k r) = ⊥
 IsBuilt z (Lose d e k) = ⊥
 IsBuilt z (Copy d e k) = ⊥
-IsBuilt z (Floor d p) = ⊥
-IsBuilt z (Collect d m) = ⊥
+IsBuilt z (Floor d p) = ⊤
+IsBuilt z (Collect d m) = ⊤
 IsBuilt z (Announce d h t) = ⊥
 IsBuilt z (Mark d) = ⊥
 IsBuilt z (AddMaintainer d p) = ⊥

@@ -5,24 +5,28 @@ ghost use Rattle.abstract_log.specs.Fits.{FitsLimits, FitsSizes};
 ghost use Rattle.stage_world.specs.Opening.{opening_at};
 ghost use Rattle.stage_world.specs.Stages.{sizes_of};
 ghost use Rattle.stage_world.specs.Schedules.{turn_of};
-ghost use Rattle.datacentre.specs.Seen.{IsWhole, StandsForALog, is_unanswered, seen};
+ghost use Rattle.datacentre.specs.Seen.{IsWhole, StandsForALog, seen};
+ghost use Rattle.stage_turns.specs.Clients.{is_unanswered};
+ghost use Rattle.datacentre.specs.Leaving.{IsLeftBy};
 ghost use Rattle.datacentre.specs.Turning.{IsBuilt, Sends, TakesTurn};
-ghost use Rattle.datacentre.specs.Told.{IsToldBy};
+ghost use Rattle.stage_turns.specs.Told.{IsToldBy};
 ghost use Rattle.record_codec.specs.declared.message.Message.{Message};
 ghost use Rattle.record_codec.specs.Wire.{SpellsMessage};
 ghost use Rattle.stage_world.specs.MoreTurns.{message_of, receive_turn};
 
+use crate::leaving::leave;
 use crate::opening::{
-    new_batchers, new_filters, new_maintainers, new_ring, new_senders, new_sessions, new_vectors,
+    new_batchers, new_filters, new_indexers, new_maintainers, new_ring, new_senders, new_sessions,
+    new_vectors,
 };
 use crate::parts::Parts;
-use crate::ring::holder;
 use crate::{Session, TurnDone, turns};
-use abstract_log::{Sizes, Step, Workload};
+use abstract_log::{LeftAt, Sizes, Step, Workload};
 use awareness_table::Aware;
 use causal_deps::Counts;
-use cz_base::{DcId, NoMemory};
+use cz_base::{DcId, NoMemory, Seq};
 use flstore_rounds::Epochs;
+use log_gc::Gc;
 use lossy_links::Packet;
 use std::alloc::Global;
 use std::marker::Model;
@@ -73,7 +77,7 @@ impl Datacentre {
     pub fn turn(&mut self, step: &Step) -> Result<TurnDone, NoMemory>
         requires log { ForSome self.old.stages (StandsForALog self.old.dc) }
         requires built { ForSome self.old.stages (λ z. IsBuilt z step.now) }
-        ensures turn { ForSome self.old.stages (λ z. TakesTurn self.old.dc (turn_of self.old.dc z step.now) result self.new) }
+        ensures turn { ForSome self.old.stages (λ z. TakesTurn self.old.dc z (turn_of self.old.dc z step.now) result self.new) }
         ensures failed { self.old.stages ≡ None → IsErr result × (self.new ≡ self.old) }
     {
         if self.failed {
@@ -104,7 +108,7 @@ impl Datacentre {
     pub fn receive(&mut self, from: DcId, r: u32, packet: &Packet) -> Result<TurnDone, NoMemory>
         requires log { ForSome self.old.stages (StandsForALog self.old.dc) }
         requires told { ForSome self.old.stages (λ z. IsToldBy (length z.table) from packet.now) }
-        ensures turn { ForSome self.old.stages (λ z. (m : Message) → SpellsMessage (length z.table) packet.now m → TakesTurn self.old.dc (receive_turn self.old.dc z r m) result self.new) }
+        ensures turn { ForSome self.old.stages (λ z. (m : Message) → SpellsMessage (length z.table) packet.now m → TakesTurn self.old.dc z (receive_turn self.old.dc z r m) result self.new) }
         ensures failed { self.old.stages ≡ None → IsErr result × (self.new ≡ self.old) }
     {
         if self.failed {
@@ -143,7 +147,7 @@ impl Datacentre {
         if self.failed {
             return 0;
         }
-        holder(&self.parts.queues) as u32
+        turns::holder(&self.parts.queues) as u32
     }
 
     /// The counts of its log, which are the token's.
@@ -153,7 +157,7 @@ impl Datacentre {
         if self.failed {
             return Counts::zero(1);
         }
-        match self.parts.queues.as_slice()[holder(&self.parts.queues)].token() {
+        match self.parts.queues.as_slice()[turns::holder(&self.parts.queues)].token() {
             Some(token) => token.counts(),
             None => unreachable!(),
         }
@@ -177,6 +181,24 @@ impl Datacentre {
             &parts.maintainers,
             &parts.table,
         )
+    }
+
+    /// Its sessions, in order.
+    pub fn sessions(&self) -> &[Session]
+        ensures { ForSome self.now.stages (λ z. result.now ≡ z.sessions) }
+    {
+        self.parts.sessions.as_slice()
+    }
+
+    /// What it leaves: what stands at each position of its log, and its table. The records are moved, and all else is given back.
+    pub fn leave(self) -> Result<LeftAt, NoMemory>
+        ensures { IfOk result (IsLeftBy self) }
+    {
+        let Datacentre { parts, failed } = self;
+        if failed {
+            return Err(NoMemory);
+        }
+        leave(parts)
     }
 
     /// Whether one of its sessions has a command that is not answered.
@@ -232,10 +254,12 @@ fn new_parts(
         queues: new_ring(alloc, dc, dcs, sizes.queues, &epochs)?,
         maintainers: new_maintainers(alloc, sizes.maintainers, &epochs)?,
         vectors: new_vectors(alloc, sizes.maintainers, &epochs)?,
-        indexers: new_vectors(alloc, sizes.indexers, &epochs)?,
+        indexers: new_indexers(alloc, sizes.indexers, &epochs)?,
         senders: new_senders(alloc, dc, sizes.senders)?,
         receivers: sizes.receivers,
         table: Aware::new(dc, dcs),
         learnt: 0,
+        floor: Gc::new(),
+        collected: Seq::new(alloc),
     })
 }

@@ -5,26 +5,12 @@
 //! with its outcome and its events. So what the stages hold goes on standing for a log.
 #![tactic(auto)]
 
-mod client;
-mod commands;
 mod datacentre;
-mod done;
-mod flushing;
-mod learning;
+mod leaving;
 mod opening;
 mod parts;
-mod placing;
-mod receiving;
-mod ring;
-mod sender_stock;
-mod sending;
-mod session;
-mod stamping;
-mod stocking;
 mod taking;
-mod telling;
-pub mod turns;
 
 pub use datacentre::Datacentre;
-pub use done::TurnDone;
-pub use session::Session;
+pub use stage_turns as turns;
+pub use stage_turns::{Session, TurnDone};

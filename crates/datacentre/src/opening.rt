@@ -2,23 +2,25 @@
 ghost use Rattle.std.specs.Prelude.{◌≡◌, ◌<◌, ◌≤◌, ◌^◌, [], length, replicate, slice_set, Some, None, IfOk};
 ghost use Rattle.flstore_rounds.specs.Heads.{blank};
 ghost use Rattle.maintainer.specs.Maintainers.{empty};
+ghost use Rattle.tag_indexer.specs.Indexers.{empty as nothing_posted};
 ghost use Rattle.toid_filter.specs.Filters.{new_filter};
 ghost use Rattle.stage_world.specs.MoreTurns.{new_queue};
 ghost use Rattle.stage_world.specs.Stages.{queue_at};
-ghost use Rattle.stage_world.specs.Opening.{numbered, new_session, sessions_from};
-ghost use Rattle.datacentre.specs.Lent.{queues_seen, HaveToken};
+ghost use Rattle.stage_world.specs.Opening.{numbered, sessions_from};
+ghost use Rattle.stage_turns.specs.Lent.{queues_seen, HaveToken};
 ghost use Rattle.datacentre.specs.Seen.{first_token};
 
 use crate::Session;
-use abstract_log::{Command, SessionPlan, Standing};
+use abstract_log::SessionPlan;
 use batcher::Batcher;
-use causal_deps::{Counts, Record};
+use causal_deps::Record;
 use cz_base::{DcId, NoMemory, Seq};
 use flstore_rounds::Epochs;
 use head_gossip::Vector;
 use maintainer::Maintainer;
 use sender_receiver::Sender;
 use std::alloc::Global;
+use tag_indexer::Indexer;
 use toid_filter::{Champions, Filter};
 use token_queue::{Queue, Token};
 
@@ -101,6 +103,17 @@ pub(crate) fn new_vectors(alloc: Global, n: u32, epochs: &Epochs) -> Result<Seq<
     Ok(vectors)
 }
 
+/// So many indexers, to which nothing was posted.
+pub(crate) fn new_indexers(alloc: Global, n: u32, epochs: &Epochs) -> Result<Seq<Indexer>, NoMemory>
+    ensures { IfOk result (λ indexers. indexers ≡ numbered (λ i. nothing_posted i n epochs.now) n) }
+{
+    let mut indexers = Seq::new(alloc);
+    for number in 0..n {
+        indexers.push(Indexer::new(alloc, number, n, epochs.copy()?))?;
+    }
+    Ok(indexers)
+}
+
 /// So many senders.
 pub(crate) fn new_senders(alloc: Global, dc: DcId, n: u32) -> Result<Seq<Sender>, NoMemory>
     ensures { IfOk result (λ senders. senders ≡ numbered (λ k. record { dc = dc; number = k }) n) }
@@ -127,37 +140,11 @@ pub(crate) fn new_sessions(
     let mut number = 0;
     for plan in plans.as_slice() {
         if plan.home == dc {
-            sessions.push(new_session(dcs, number, plan)?)?;
+            sessions.push(Session::new(dcs, number, plan)?)?;
         }
         number += 1;
     }
     Ok(sessions)
-}
-
-fn new_session(dcs: u32, number: u32, plan: &SessionPlan) -> Result<Session, NoMemory>
-    requires { (1 ≤ dcs) × (dcs ≤ 8) }
-    ensures { IfOk result (λ session. session ≡ new_session dcs number plan.now) }
-{
-    Ok(Session {
-        number,
-        commands: copy_commands(&plan.commands)?,
-        standing: Standing {
-            answered: 0,
-            begun: false,
-            past: Counts::zero(dcs),
-            floor: 0,
-        },
-    })
-}
-
-fn copy_commands(commands: &Seq<Command>) -> Result<Seq<Command>, NoMemory>
-    ensures { IfOk result (λ copy. copy ≡ commands.now) }
-{
-    let mut copy = Seq::new(commands.alloc());
-    for command in commands.as_slice() {
-        copy.push(command.copy()?)?;
-    }
-    Ok(copy)
 }
 
 // The first queue takes the token.

@@ -1,23 +1,22 @@
 //! The turns of a whole datacentre: where a member is not there nothing happens, else it is lent its stages.
-ghost use Rattle.std.specs.Prelude.{◌≡◌, ◌<◌, ◌&&◌, [], nat_lt, length, slice_index_or, All, IfOk};
+ghost use Rattle.std.specs.Prelude.{◌≡◌, ◌<◌, ◌&&◌, [], false, nat_lt, length, slice_index_or, All, IfOk};
 ghost use Rattle.abstract_log.specs.declared.script.Outcome.TheVariants.{Absent};
 ghost use Rattle.record_codec.specs.declared.message.Message.{Message};
 ghost use Rattle.record_codec.specs.Wire.{SpellsMessage};
 ghost use Rattle.stage_world.specs.Stages.{Session};
 ghost use Rattle.stage_world.specs.ClientTurns.{client_turn};
 ghost use Rattle.stage_world.specs.Turns.{flush_turn, gossip_turn, pass_turn, place_turn, stamp_turn, token_turn, where_there};
-ghost use Rattle.stage_world.specs.MoreTurns.{learn_turn, receive_turn};
+ghost use Rattle.stage_world.specs.MoreTurns.{collect_turn, floor_turn, learn_turn, receive_turn};
 ghost use Rattle.datacentre.specs.Seen.{seen};
 ghost use Rattle.stage_world.specs.Schedules.{turn_of};
-ghost use Rattle.datacentre.specs.Clients.{writes};
-ghost use Rattle.datacentre.specs.Told.{IsToldBy};
+ghost use Rattle.stage_turns.specs.Clients.{writes};
+ghost use Rattle.stage_turns.specs.Told.{IsToldBy};
 ghost use Rattle.datacentre.specs.Turning.{IsBuilt, IsBuiltCommand, IsPacketOf, IsTurned, MayTurn, send_told};
 
 use crate::parts::Parts;
-use crate::stamping::place_of;
 use crate::{TurnDone, turns};
 use abstract_log::{Outcome, Step};
-use cz_base::{DcId, NoMemory, Seq};
+use cz_base::{DcId, Lid, NoMemory, Seq};
 use lossy_links::Packet;
 
 impl Parts {
@@ -36,6 +35,8 @@ impl Parts {
             Step::Place { q, m, .. } => self.place(*q, *m),
             Step::Gossip { m, k, .. } => self.gossip(*m, *k),
             Step::Learn { .. } => self.learn(),
+            Step::Floor { p, .. } => self.raise_floor(*p),
+            Step::Collect { m, .. } => self.collect(*m),
             _ => unreachable!(),
         }
     }
@@ -136,13 +137,44 @@ impl Parts {
         )
     }
 
+    /// The collection floor rises to p, as far as the head, what is posted and the pins allow.
+    pub fn raise_floor(&mut self, p: Lid) -> Result<TurnDone, NoMemory>
+        requires { MayTurn self.old }
+        ensures { IfOk result (λ done. IsTurned self.old self.new done (floor_turn (seen self.old) p)) }
+    {
+        turns::floor(
+            p,
+            &self.vectors.as_slice()[0],
+            &self.indexers,
+            &mut self.floor,
+        )
+    }
+
+    /// Maintainer m lets each record go that may be collected.
+    pub fn collect(&mut self, m: u32) -> Result<TurnDone, NoMemory>
+        requires { MayTurn self.old }
+        ensures { IfOk result (λ done. IsTurned self.old self.new done (where_there (nat_lt m (length self.old.maintainers)) (seen self.old) (collect_turn self.old.dc (seen self.old) m))) }
+    {
+        if m as usize >= self.maintainers.len() {
+            return Ok(self.absent());
+        }
+        turns::collect(
+            self.dc,
+            self.maintainers.item_mut(m as usize),
+            &self.indexers,
+            &self.table,
+            &self.floor,
+            &mut self.collected,
+        )
+    }
+
     /// Session s, if it lives here, begins its next command or goes on with the one that is open.
     pub fn client(&mut self, s: u32) -> Result<TurnDone, NoMemory>
         requires may { MayTurn self.old }
         requires built { All (λ x. All IsBuiltCommand x.commands) self.old.sessions }
         ensures { IfOk result (λ done. IsTurned self.old self.new done (client_turn self.old.dc (seen self.old) s)) }
     {
-        let Some(at) = place_of(&self.sessions, s) else {
+        let Some(at) = turns::place_of(&self.sessions, s) else {
             return Ok(self.absent());
         };
         if self.writes(at) {
@@ -207,11 +239,12 @@ impl Parts {
 
     // What is answered where a member is not there.
     fn absent(&self) -> TurnDone
-        ensures { result ≡ record { outcome = Absent; events = [] } }
+        ensures { result ≡ record { outcome = Absent; events = []; changed = false } }
     {
         TurnDone {
             outcome: Outcome::Absent,
             events: Seq::new(self.queues.alloc()),
+            changed: false,
         }
     }
 }

@@ -64,6 +64,13 @@ impl Vector {
         Ok(())
     }
 
+    /// The mark of each maintainer.
+    pub fn marks(&self) -> &[Lid; 16]
+        ensures { result.now ≡ self.now.marks }
+    {
+        &self.marks
+    }
+
     /// What it knows, for another vector to hear.
     pub fn tell(&self) -> Result<Note, NoMemory>
         ensures note { IfOk result (λ note. pair_of note ≡ self.now) }

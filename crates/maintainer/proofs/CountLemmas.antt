@@ -40,6 +40,16 @@ position_counted P p (q ∷ qs) some all = elim (cases_eq q p) [
   | inr other ↦ position_counted P p qs (omega (arith, sum_by-cons (λ (x : ℕ). cond (eqb x p) 1 0) q qs, cond-false {A = ℕ} (eqb q p) 1 0 (ne_eqb q p other))) (All-tail P q qs all)
 ]
 
+-- one that is counted is there
+pub position_there : (p : ℕ) (ps : List ℕ) → 1 ≤ times p ps → Contains ps p
+position_there p [] some = absurd (omega arith)
+position_there p (q ∷ qs) some = elim (cases_eq q p) [
+  | inl same ↦ (0, omega arith, same)
+  | inr other ↦
+      let rest = position_there p qs (omega (arith, sum_by-cons (λ (x : ℕ). cond (eqb x p) 1 0) q qs, cond-false {A = ℕ} (eqb q p) 1 0 (ne_eqb q p other))) in
+      (suc rest.0, omega (arith, rest.1), rest.2)
+]
+
 -- a test finds a position exactly where it is counted
 pub gone_test : (p : ℕ) (ps : List ℕ) → (list_any (λ q. eqb q p) ps ≡ true → 1 ≤ times p ps) × (list_any (λ q. eqb q p) ps ≡ false → times p ps ≡ 0)
 gone_test p [] = (λ is. absurd (false≢true is), λ is. refl)

@@ -1,5 +1,5 @@
 -- The laws of maintainers.
-use Rattle.std.proofs.Common.{◌≡◌, ◌⊎◌, ℕ, suc, ◌+◌, ◌^◌, ◌<◌, ◌≤◌, false, cond, ltb, eqb, List, [], ◌∷◌, Option, Some, length, get_or, refl, ap, sym, ◌∙◌, subst, inl, inr, arith}
+use Rattle.std.proofs.Common.{◌≡◌, ◌⊎◌, ℕ, suc, ◌+◌, ◌<◌, ◌≤◌, false, cond, ltb, eqb, List, [], ◌∷◌, Option, Some, length, get_or, refl, ap, sym, ◌∙◌, subst, inl, inr, arith}
 use Rattle.std.specs.List.{All, sum_by}
 use Rattle.std.proofs.lemmas.Bool.{cases_eq, cases_lt, cond-true, cond-false, cond_both, eq-eqb, ne_eqb}
 use Rattle.std.proofs.lemmas.List.Elements.{All-head, All-tail, All-drop, All-weaker}
@@ -9,10 +9,10 @@ use Rattle.flstore_rounds.specs.Epochs.{EpochList, owner, longer, later_than, Is
 use Rattle.flstore_rounds.specs.Heads.{IsTrueMark}
 use Rattle.maintainer.specs.declared.slot.Slot.{Slot}
 use Rattle.maintainer.specs.Marks.{IsReached}
-use Rattle.maintainer.specs.Maintainers.{MaintainerState, IsOwn, IsFilled, IsFilledBy, IsMark, IsSound, OwnsAll, times_in, times_filled, value_at, put_in, placed, learned, mark_of}
+use Rattle.maintainer.specs.Maintainers.{MaintainerState, IsOwn, IsFilled, IsMark, OwnsAll, times_in, times_filled, value_at, put_in, placed, learned, mark_of}
 use Rattle.maintainer.proofs.MarkLemmas.{reached_filled, mark_gap, reached_more, mark_alike, mark_below_reached}
 use Rattle.maintainer.proofs.MarkOf.{is_mark, mark_is}
-use Rattle.maintainer.proofs.SlotLemmas.{times_in-none, times_in-put_in, vacant_none}
+use Rattle.maintainer.proofs.SlotLemmas.{times_in-put_in, vacant_none}
 use Rattle.maintainer.proofs.LongerLemmas.{owner-longer, settled_below}
 
 -- what is counted stands somewhere
@@ -99,19 +99,3 @@ module _ {T : Type 0} where
           (filled_settled t m at.0 owns (at.2.all at.0 (omega arith) at.2.here))
     ];
   }
-
--- a mark is in the range of positions, or just above
-pub mark_within : {T : Type 0} (number : ℕ) (epochs : EpochList) (slots : List (Slot T)) (k : ℕ) → IsSound number epochs slots k → (1 ≤ k) × (k ≤ 2 ^ 48)
-mark_within number epochs slots k sound = elim sound.mark.reached [
-  | inl one ↦ (omega arith, omega (arith, one))
-  | inr at ↦ (
-    omega (arith, at.1),
-    elim (cases_lt at.0 (2 ^ 48)) [
-      | inl low ↦ omega (arith, at.1)
-      | inr high ↦
-          let none : times_in at.0 slots ≡ 0 = times_in-none at.0 slots (λ j d inside same. absurd (omega (arith, sound.kept.small j d inside))) in
-          let full : IsFilledBy slots [] at.0 = at.2.all at.0 (omega arith) at.2.here in
-          absurd (omega arith)
-    ],
-  )
-]

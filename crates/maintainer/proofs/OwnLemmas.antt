@@ -2,7 +2,7 @@
 use Rattle.std.proofs.Common.{◌≡◌, ℕ, ◌<◌, ◌≤◌, List, get_or, refl, ap, sym, ◌∙◌, subst, inl, inr, arith}
 use Rattle.std.specs.List.{All}
 use Rattle.std.proofs.lemmas.Bool.{cases_lt}
-use Rattle.std.proofs.lemmas.List.Elements.{All-nil, All-cons, All-weaker}
+use Rattle.std.proofs.lemmas.List.Elements.{All-nil, All-weaker}
 use Rattle.flstore_rounds.specs.declared.epochs.Epoch.{Epoch}
 use Rattle.flstore_rounds.specs.Epochs.{EpochList, owner, longer, with_epoch, IsPrefix, IsSettled}
 use Rattle.flstore_rounds.specs.Heads.{IsTruePair, single}
@@ -12,6 +12,7 @@ use Rattle.maintainer.specs.declared.slot.Slot.{Slot}
 use Rattle.maintainer.specs.Maintainers.{MaintainerState, IsFilled, Owns, OwnsAll, collected, empty, learned, mark_of, moved_in, placed, times_in}
 use Rattle.maintainer.proofs.CountLemmas.{counts_itself, entry_counted, position_counted}
 use Rattle.maintainer.proofs.LawLemmas.{own_true}
+use Rattle.maintainer.proofs.PositionLemmas.{All-put_position}
 use Rattle.maintainer.proofs.SlotLemmas.{All-put_in, times_in-some}
 use Rattle.maintainer.proofs.StateLemmas.{All-collected, has_taken}
 
@@ -80,7 +81,7 @@ module _ {T : Type 0} where
       record {
         known = owns.known;
         entries = All-collected (λ (x : Slot T). Owns t n x.lid) m p (All-weaker (λ (x : Slot T). Owns t m x.lid) (λ (x : Slot T). Owns t n x.lid) (λ x. again x.lid) m.entries owns.entries);
-        gone = All-cons (Owns t n) p m.gone (again p (owns_filled t m p owns full)) (All-weaker (Owns t m) (Owns t n) again m.gone owns.gone);
+        gone = All-put_position (Owns t n) p m.gone (again p (owns_filled t m p owns full)) (All-weaker (Owns t m) (Owns t n) again m.gone owns.gone);
       }
 
   -- by the whole list with an epoch more, which starts above all that is filled

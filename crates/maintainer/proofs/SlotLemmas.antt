@@ -4,11 +4,11 @@ use Rattle.std.specs.List.{All, AllWithin, insert}
 use Rattle.std.specs.List.Sorted.{IsNonDecreasingBy}
 use Rattle.std.proofs.lemmas.Bool.{cases_lt, cases_eq, cond-true, cond-false, cond_both, eq-eqb, ne_eqb, lt-ltb, le-ltb}
 use Rattle.std.proofs.lemmas.List.Elements.{All-cons, All-head, All-tail, All-append, All-take, All-drop}
-use Rattle.std.proofs.lemmas.List.Edits.{length-insert, get_or-insert_below, get_or-insert_at, get_or-insert_above}
 use Rattle.std.proofs.lemmas.Option.{get_or_from_slice_get}
 use Rattle.std.proofs.lemmas.List.Sums.{sum_by-cons, sum_by-insert, get_or-le-sum_by}
 use Rattle.flstore_rounds.specs.Epochs.{EpochList}
 use Rattle.maintainer.specs.declared.slot.Slot.{Slot}
+use Rattle.maintainer.proofs.Rising.{rises_non_decreasing, rises-insert}
 use Rattle.maintainer.specs.Maintainers.{AreRising, AreKept, IsOwnedBy, times_in, value_at, put_in}
 
 module _ {T : Type 0} where
@@ -17,10 +17,7 @@ module _ {T : Type 0} where
   at_position p e = cond (eqb e.lid p) 1 0
 
   pub rising_non_decreasing : (es : List (Slot T)) → AreRising es → IsNonDecreasingBy (λ (e : Slot T). e.lid) es
-  rising_non_decreasing es rising = λ i j d le within. elim (cases_lt i j) [
-    | inl lt ↦ omega (arith, rising.below i j d lt within)
-    | inr ge ↦ let same : i ≡ j = omega arith in omega (arith, ap (λ n. (get_or es n d).lid) same)
-  ]
+  rising_non_decreasing es rising = rises_non_decreasing (λ (e : Slot T). e.lid) es rising.below
 
   -- how often p stands among the slots
   pub times_in-insert : (p i : ℕ) (e : Slot T) (es : List (Slot T)) → times_in p (insert es i e) ≡ times_in p es + cond (eqb e.lid p) 1 0
@@ -43,32 +40,7 @@ module _ {T : Type 0} where
   All-insert P es i e all here = All-append P (take i es) (e ∷ drop i es) (All-take P i es all) (All-cons P e (drop i es) here (All-drop P i es all))
 
   pub rising-insert : (es : List (Slot T)) (i : ℕ) (e : Slot T) → AreRising es → i ≤ length es → AllWithin (λ (x : Slot T). x.lid < e.lid) es 0 i → AllWithin (λ (x : Slot T). e.lid < x.lid) es i (length es) → AreRising (insert es i e)
-  rising-insert es i e rising within below above = record { below = λ a b d lt inside. ordered a b d lt (omega (arith, length-insert es i e within)) }
-    where
-      before : (d : Slot T) (k : ℕ) → k < i → (get_or (insert es i e) k d).lid ≡ (get_or es k d).lid
-      before d k lt = ap (λ (x : Slot T). x.lid) (get_or-insert_below es i e d k lt within)
-
-      here : (d : Slot T) (k : ℕ) → k ≡ i → (get_or (insert es i e) k d).lid ≡ e.lid
-      here d k same = ap (λ n. (get_or (insert es i e) n d).lid) same ∙ ap (λ (x : Slot T). x.lid) (get_or-insert_at es i e d within)
-
-      after : (d : Slot T) (k j : ℕ) → k ≡ j + 1 → i ≤ j → (get_or (insert es i e) k d).lid ≡ (get_or es j d).lid
-      after d k j same le = ap (λ n. (get_or (insert es i e) n d).lid) same ∙ ap (λ (x : Slot T). x.lid) (get_or-insert_above es i e d j le within)
-
-      ordered : (a b : ℕ) (d : Slot T) → a < b → b < length es + 1 → (get_or (insert es i e) a d).lid < (get_or (insert es i e) b d).lid
-      ordered a b d lt inside = elim (cases_lt b i) [
-        | inl low ↦ omega (arith, before d a (omega arith), before d b low, rising.below a b d lt (omega arith))
-        | inr high ↦ elim (cases_eq b i) [
-          | inl same ↦ omega (arith, before d a (omega arith), here d b same, below a d (omega arith) (omega arith))
-          | inr other ↦ let next : b ≡ (b - 1) + 1 = omega (arith, other) in elim (cases_lt a i) [
-            | inl first ↦ omega (arith, before d a first, after d b (b - 1) next (omega (arith, other)), rising.below a (b - 1) d (omega (arith, other)) (omega arith))
-            | inr later ↦ elim (cases_eq a i) [
-              | inl at ↦ omega (arith, here d a at, after d b (b - 1) next (omega (arith, other)), above (b - 1) d (omega (arith, other)) (omega arith))
-              | inr past ↦ let before_it : a ≡ (a - 1) + 1 = omega (arith, past) in
-                  omega (arith, after d a (a - 1) before_it (omega (arith, past)), after d b (b - 1) next (omega (arith, other)), rising.below (a - 1) (b - 1) d (omega (arith, past)) (omega arith))
-            ]
-          ]
-        ]
-      ]
+  rising-insert es i e rising within below above = record { below = rises-insert (λ (x : Slot T). x.lid) es i e rising.below within below above }
 
   -- the place found is the place by position
   pub insert_is_put_in : (es : List (Slot T)) (i : ℕ) (e : Slot T) → i ≤ length es → AllWithin (λ (x : Slot T). x.lid < e.lid) es 0 i → AllWithin (λ (x : Slot T). e.lid < x.lid) es i (length es) → insert es i e ≡ put_in e es

@@ -10,6 +10,7 @@ use Rattle.maintainer.specs.Maintainers.{AreRising, MaintainerState, IsFilled, I
 use Rattle.maintainer.proofs.CountLemmas.{times_in-others, times_in-others_same, times_in-rising, value_at-absent, value_at-others}
 use Rattle.maintainer.proofs.MarkLemmas.{mark_same}
 use Rattle.maintainer.proofs.MarkOf.{is_mark, mark_is}
+use Rattle.maintainer.proofs.PositionLemmas.{times-put_position}
 use Rattle.maintainer.proofs.SlotLemmas.{All-put_in, times_in-put_in}
 
 module _ {T : Type 0} where
@@ -61,7 +62,7 @@ module _ {T : Type 0} where
   collected_value m p q = value_at-others p q m.entries
 
   pub collected_gone : (m : MaintainerState T) (p q : ℕ) → times q (collected m p).gone ≡ times q m.gone + cond (eqb p q) 1 0
-  collected_gone m p q = omega (arith, sum_by-cons (λ (x : ℕ). cond (eqb x q) 1 0) p m.gone)
+  collected_gone m p q = times-put_position q p m.gone
 
   pub All-collected : (P : Slot T → Type 0) (m : MaintainerState T) (p : ℕ) → All P m.entries → All P (collected m p).entries
   All-collected P m p all = All-filter (λ e. not (eqb e.lid p)) P m.entries all

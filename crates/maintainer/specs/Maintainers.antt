@@ -1,5 +1,6 @@
 -- Maintainers: each keeps the values at the positions that it owns.
-use Rattle.std.specs.Prelude.{◌≡◌, ℕ, zero, suc, ◌+◌, ◌-◌, ◌^◌, ◌<◌, ◌≤◌, ◌==◌, max, not, if◌then◌else◌, nat_lt, List, [], ◌∷◌, length, filter, find, Option, Some, None, slice_get, slice_index_or, count_by, fold, All, refl}
+use Rattle.std.specs.Prelude.{◌≡◌, ℕ, zero, suc, ◌+◌, ◌-◌, ◌^◌, ◌<◌, ◌≤◌, ◌==◌, ◌&&◌, max, not, Bool, if◌then◌else◌, nat_lt, nat_le, List, [], ◌∷◌, length, filter, find, Option, Some, None, slice_get, slice_index_or, count_by, fold, All, refl}
+use Rattle.std.specs.List.{list_any}
 use Rattle.std.specs.Coded.{Coded, code_by, coded×, coded_ℕ, coded_list}
 use Rattle.flstore_rounds.specs.declared.epochs.Epoch.{Epoch}
 use Rattle.flstore_rounds.specs.Epochs.{EpochList, owner, longer, IsPrefix, IsSettled}
@@ -9,7 +10,7 @@ use Rattle.maintainer.specs.declared.slot.Slot.{Slot}
 use Rattle.maintainer.specs.Marks.{IsMarkOf}
 
 -- What contracts see of a maintainer: its number, its epoch list, its values by rising position, the positions of
--- which the value was let go, and how many more values fit with no allocation.
+-- which the value was let go, rising too, and how many more values fit with no allocation.
 pub record MaintainerState (T : Type 0) : Type 0 where
   pub number : ℕ
   pub epochs : EpochList
@@ -39,6 +40,19 @@ state_code {T} code =
 pub record IsOwnedBy (epochs : EpochList) (number p : ℕ) : Type 0 where
   pub first : 1 ≤ p
   pub owner : owner epochs p ≡ number
+
+-- positions rise along the list
+pub record AreRisingPositions (ps : List ℕ) : Type 0 where
+  pub below : (i j d : ℕ) → i < j → j < length ps → slice_index_or ps i d < slice_index_or ps j d
+
+-- the position in its place
+abbrev pub put_position : ℕ → List ℕ → List ℕ
+put_position p [] = p ∷ []
+put_position p (q ∷ qs) = if nat_lt p q then p ∷ q ∷ qs else q ∷ put_position p qs
+
+-- some position is in the range from low up to but not at top
+abbrev pub is_some_within : ℕ → ℕ → List ℕ → Bool
+is_some_within low top ps = list_any (λ p. nat_le low p && nat_lt p top) ps
 
 -- how often p is among the positions
 abbrev pub times : ℕ → List ℕ → ℕ
@@ -103,7 +117,7 @@ module _ {T : Type 0} where
 
   -- the value at p is let go, and p is gone
   abbrev pub collected : MaintainerState T → ℕ → MaintainerState T
-  collected m p = record m { entries = filter (λ e. not (e.lid == p)) m.entries; gone = p ∷ m.gone }
+  collected m p = record m { entries = filter (λ e. not (e.lid == p)) m.entries; gone = put_position p m.gone }
 
   -- with several values placed, one after another
   abbrev pub moved_in : MaintainerState T → List (Slot T) → MaintainerState T
@@ -128,10 +142,17 @@ module _ {T : Type 0} where
     pub own : All (λ e. IsOwnedBy epochs number e.lid) es
     pub small : All (λ e. e.lid < 2 ^ 48) es
 
-  -- what holds of a maintainer's fields: its slots are such a map, and its mark is theirs
-  pub record IsSound (number : ℕ) (epochs : EpochList) (slots : List (Slot T)) (k : ℕ) : Type 0 where
+  -- positions of which the value was let go: each once, in its range, and with no value
+  pub record AreLetGo (es : List (Slot T)) (gone : List ℕ) : Type 0 where
+    pub rising : AreRisingPositions gone
+    pub small : All (λ p. p < 2 ^ 48) gone
+    pub apart : All (λ p. times_in p es ≡ 0) gone
+
+  -- what holds of a maintainer's fields: its slots are such a map, other positions are gone, and its mark is theirs
+  pub record IsSound (number : ℕ) (epochs : EpochList) (slots : List (Slot T)) (gone : List ℕ) (k : ℕ) : Type 0 where
     pub kept : AreKept epochs number slots
-    pub mark : IsMarkOf (IsOwnedBy epochs number) (IsFilledBy slots []) k
+    pub let_go : AreLetGo slots gone
+    pub mark : IsMarkOf (IsOwnedBy epochs number) (IsFilledBy slots gone) k
 
   -- the maintainer owns position p, by its own list and by the whole one
   pub record Owns (t : EpochList) (m : MaintainerState T) (p : ℕ) : Type 0 where

@@ -9,6 +9,7 @@
 
 pub mod laws;
 mod maintainer;
+mod positions;
 mod slot;
 
 pub use maintainer::Maintainer;

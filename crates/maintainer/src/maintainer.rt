@@ -1,13 +1,14 @@
-ghost use Rattle.std.specs.Prelude.{◌≡◌, ◌⊎◌, ℕ, ◌^◌, ◌<◌, ◌≤◌, ◌↔◌, Contains, IsSome, OnErr, OnOk};
+ghost use Rattle.std.specs.Prelude.{◌≡◌, ◌⊎◌, ℕ, ◌^◌, ◌<◌, ◌≤◌, ◌↔◌, Contains, IsSome, OnErr, OnOk, Some};
 ghost use Rattle.std.specs.Option.{option_copied};
 ghost use Rattle.causal_deps.specs.declared.answers.Shown.{Shown};
 ghost use Rattle.flstore_rounds.specs.Epochs.{IsPrefix, IsSettled};
-ghost use Rattle.maintainer.specs.Maintainers.{AreKept, AreRising, IsFilled, IsMark, IsOwn, empty, entry_after, learned, mark_of, placed, shown_value, value_at};
+ghost use Rattle.maintainer.specs.Maintainers.{AreKept, AreRising, IsFilled, IsMark, IsOwn, collected, empty, entry_after, is_some_within, learned, mark_of, placed, shown_value, value_at};
 
 use crate::Slot;
+use crate::positions::{has_position, has_position_within, positions_below};
 use crate::slot::{mark_past, slot_after, slots_below, value_of};
 use causal_deps::Shown;
-use cz_base::{Lid, NoMemory};
+use cz_base::{Lid, NoMemory, Seq};
 use flstore_rounds::Epochs;
 use std::alloc::Global;
 use std::marker::Model;
@@ -20,6 +21,9 @@ pub struct Maintainer<T> {
     number: u32,
     epochs: Epochs,
     slots: Vec<Slot<T>>,
+    // There is room for each value of a slot or a spare place to go.
+    gone: Vec<Lid>,
+    spare: usize,
     mark: Lid,
 }
 
@@ -30,13 +34,13 @@ impl<T> Model for Maintainer<T> {
 
     ghost coded = { state_code T.code };
 
-    ghost use Rattle.std.specs.Prelude.{◌-◌, [], vec_len};
+    ghost use Rattle.std.specs.Prelude.{◌+◌, ◌≤◌, vec_len};
     ghost use Rattle.std.specs.Vec.{vec_capacity};
     ghost use Rattle.maintainer.specs.Maintainers.{IsSound};
 
-    ghost view = { λ m. record { number = m.number; epochs = m.epochs; entries = m.slots.items; gone = []; spare = vec_capacity m.slots - vec_len m.slots } };
+    ghost view = { λ m. record { number = m.number; epochs = m.epochs; entries = m.slots.items; gone = m.gone.items; spare = m.spare } };
 
-    ghost invariant = { λ m. IsSound m.number m.epochs m.slots.items m.mark };
+    ghost invariant = { λ m. IsSound m.number m.epochs m.slots.items m.gone.items m.mark × (vec_len m.slots + m.spare ≤ vec_capacity m.slots) × (vec_len m.gone + (vec_len m.slots + m.spare) ≤ vec_capacity m.gone) };
 }
 
 impl<T> Maintainer<T> {
@@ -48,6 +52,8 @@ impl<T> Maintainer<T> {
             number,
             epochs,
             slots: Vec::new(alloc),
+            gone: Vec::new(alloc),
+            spare: 0,
             mark: 1,
         }
     }
@@ -84,7 +90,12 @@ impl<T> Maintainer<T> {
         ensures rest { self.new ≡ record self.old { spare = self.new.spare } }
         ensures err { OnErr result (self.new ≡ self.old) }
     {
+        let Some(values) = self.slots.len().checked_add(n) else {
+            return Err(NoMemory);
+        };
         self.slots.reserve(n)?;
+        self.gone.reserve(values)?;
+        self.spare = self.spare.max(n);
         Ok(())
     }
 
@@ -98,11 +109,38 @@ impl<T> Maintainer<T> {
     {
         let at = slots_below(&self.slots, lid);
         self.slots.insert(at, Slot { lid, value }).unwrap();
+        self.spare -= 1;
         // An owner is a member of the last epoch too, which has the most.
         prove!(self.epochs.owner(lid) == self.number);
-        if self.epochs.next_own(self.number, self.mark) == lid {
-            self.mark = mark_past(&self.epochs, self.number, &self.slots, at);
-        }
+        self.mark = mark_past(
+            &self.epochs,
+            self.number,
+            &self.slots,
+            &self.gone,
+            self.mark,
+        );
+    }
+
+    /// Lets the value at a position go and hands it out. The position is gone from then on, and stays filled. No
+    /// memory is taken: its room came with the value's.
+    pub fn collect(&mut self, lid: Lid) -> T
+        requires { IsSome (value_at lid self.old.entries) }
+        ensures value { Some result ≡ value_at lid self.old.entries }
+        ensures state { self.new ≡ collected self.old lid }
+    {
+        let Slot { value, .. } = self.slots.remove(slots_below(&self.slots, lid));
+        self.gone
+            .insert(positions_below(&self.gone, lid), lid)
+            .unwrap();
+        value
+    }
+
+    /// Its entries, which are moved out.
+    pub fn into_slots(self) -> Seq<Slot<T>>
+        ensures { result ≡ self.entries }
+    {
+        let Maintainer { slots, .. } = self;
+        Seq::from_vec(slots)
     }
 
     /// What stands at an own position.
@@ -115,8 +153,29 @@ impl<T> Maintainer<T> {
     {
         match value_of(&self.slots, lid) {
             Some(value) => Shown::Filled(value),
-            None => Shown::Empty,
+            None => {
+                if has_position(&self.gone, lid) {
+                    Shown::Gone
+                } else {
+                    Shown::Empty
+                }
+            }
         }
+    }
+
+    /// Whether a value was let go at some position from `low` up to but not at `top`.
+    pub fn has_gone_within(&self, low: Lid, top: Lid) -> bool
+        ensures { result ≡ is_some_within low top self.now.gone }
+    {
+        has_position_within(&self.gone, low, top)
+    }
+
+    /// Its entries: what stands where, by rising position.
+    pub fn entries(&self) -> &[Slot<T>]
+        ensures value { result.now ≡ self.now.entries }
+        ensures rising { AreRising self.now.entries }
+    {
+        &self.slots
     }
 
     /// The first entry above a position, if there is one. Positions rise along the entries, so no other entry above it

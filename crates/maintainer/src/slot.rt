@@ -1,10 +1,11 @@
-ghost use Rattle.std.specs.Prelude.{◌≡◌, ◌<◌, ◌≤◌, length, []};
-ghost use Rattle.std.specs.List.{AllWithin, HoldsAt};
+ghost use Rattle.std.specs.Prelude.{◌≡◌, ℕ, ◌^◌, ◌<◌, ◌≤◌, ◌↔◌, length, IsTrue};
+ghost use Rattle.std.specs.List.{AllWithin};
 ghost use Rattle.std.specs.Option.{option_copied};
 ghost use Rattle.flstore_rounds.specs.Epochs.{last_epoch};
-ghost use Rattle.maintainer.specs.Maintainers.{AreKept, AreRising, IsOwnedBy, IsFilledBy, entry_after, value_at};
-ghost use Rattle.maintainer.specs.Marks.{IsGapless, IsMarkOf};
+ghost use Rattle.maintainer.specs.Maintainers.{AreRising, AreRisingPositions, IsOwnedBy, IsFilledBy, entry_after, value_at};
+ghost use Rattle.maintainer.specs.Marks.{IsMarkOf, IsReached};
 
+use crate::positions::has_position;
 use cz_base::Lid;
 use flstore_rounds::Epochs;
 
@@ -56,21 +57,40 @@ pub(crate) fn value_of<T>(slots: &[Slot<T>], lid: Lid) -> Option<&T>
     }
 }
 
-/// The mark, where the own positions up to that of slot `at` have no gap.
-pub(crate) fn mark_past<T>(epochs: &Epochs, number: u32, slots: &[Slot<T>], at: usize) -> Lid
-    requires within { at < length slots.now }
-    requires member { number < (last_epoch epochs.now).members }
-    requires kept { AreKept epochs.now number slots.now }
-    requires gapless { HoldsAt (λ slot. IsGapless (IsOwnedBy epochs.now number) (IsFilledBy slots.now []) slot.lid) slots.now at }
-    ensures mark { IsMarkOf (IsOwnedBy epochs.now number) (IsFilledBy slots.now []) result }
+/// Whether the position is filled, by a value or as gone.
+fn is_filled<T>(slots: &[Slot<T>], gone: &[Lid], lid: Lid) -> bool
+    requires slots { AreRising slots.now }
+    requires gone { AreRisingPositions gone.now }
+    ensures { IsTrue result ↔ IsFilledBy slots.now gone.now lid }
 {
-    let (_, later) = slots.split_at(at + 1);
-    let mut mark = slots[at].lid + 1;
-    for slot in later {
-        if epochs.next_own(number, mark) != slot.lid {
+    match value_of(slots, lid) {
+        Some(_) => true,
+        None => has_position(gone, lid),
+    }
+}
+
+/// The mark, where the own positions below `from` have no gap.
+pub(crate) fn mark_past<T>(
+    epochs: &Epochs,
+    number: u32,
+    slots: &[Slot<T>],
+    gone: &[Lid],
+    from: Lid,
+) -> Lid
+    requires member { number < (last_epoch epochs.now).members }
+    requires slots { AreRising slots.now }
+    requires gone { AreRisingPositions gone.now }
+    requires small { (p : ℕ) → IsFilledBy slots.now gone.now p → p < 2 ^ 48 }
+    requires from { (1 ≤ from) × (from ≤ 2 ^ 48) }
+    requires reached { IsReached (IsOwnedBy epochs.now number) (IsFilledBy slots.now gone.now) from }
+    ensures mark { IsMarkOf (IsOwnedBy epochs.now number) (IsFilledBy slots.now gone.now) result }
+{
+    let mut mark = from;
+    loop {
+        let next = epochs.next_own(number, mark);
+        if !is_filled(slots, gone, next) {
             return mark;
         }
-        mark = slot.lid + 1;
+        mark = next + 1;
     }
-    mark
 }

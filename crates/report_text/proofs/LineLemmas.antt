@@ -63,6 +63,13 @@ added_numbered h f n start now next xs i x was is within at =
     is ∙ ap (λ t. t ++ flat_map h (f (i + n) x)) was ∙ append_assoc start (flat_map h (flat_map_from f n (take i xs))) (flat_map h (f (i + n) x))
     ∙ ap (λ t. start ++ t) (sym (flat_map-append h (flat_map_from f n (take i xs)) (f (i + n) x)) ∙ ap (λ ys. flat_map h ys) (sym (flat_map_from_more f n xs i x within at)))
 
+pub added_counted : {X A B : Type 0} (h : A → List B) (f : ℕ → X → List A) (start now next : List B) (xs : List X) (i : ℕ) (x : X)
+    → now ≡ start ++ flat_map h (flat_map_from f 0 (take i xs)) → next ≡ now ++ flat_map h (f i x) → i < length xs → x ≡ get_or xs i x
+    → next ≡ start ++ flat_map h (flat_map_from f 0 (take (i + 1) xs))
+added_counted h f start now next xs i x was is within at =
+    let same : i ≡ i + 0 = omega arith in
+    added_numbered h f 0 start now next xs i x was (is ∙ ap (λ k. now ++ flat_map h (f k x)) same) within at
+
 -- and for what is told of each number
 pub added_below : {A B : Type 0} (h : A → List B) (f : ℕ → List A) (start now next : List B) (n : ℕ)
     → now ≡ start ++ flat_map h (below f n) → next ≡ now ++ flat_map h (f n) → next ≡ start ++ flat_map h (below f (n + 1))

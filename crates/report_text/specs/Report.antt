@@ -1,6 +1,6 @@
 -- The reports of a run: their lines, each as its words.
-use Rattle.std.specs.Prelude.{◌≡◌, ℕ, ◌==◌, Bool, true, false, if◌then◌else◌, List, [], ◌∷◌, ◌++◌, length, codes, slice_index_or, Option, None, Some}
-use Rattle.std.specs.List.{flat_map, list_any}
+use Rattle.std.specs.Prelude.{ℕ, ◌==◌, true, false, if◌then◌else◌, List, [], ◌∷◌, ◌++◌, length, codes, Option, None, Some}
+use Rattle.std.specs.List.{flat_map}
 use Rattle.std.specs.Fmt.{decimal}
 use Rattle.causal_deps.specs.declared.record.Record.{Record}
 use Rattle.abstract_log.specs.declared.command.Command.{Command}
@@ -17,9 +17,11 @@ use Rattle.abstract_log.specs.declared.answer.Found.TheVariants.{Absent, At}
 use Rattle.abstract_log.specs.declared.answer.ReadAnswer.{ReadAnswer}
 use Rattle.abstract_log.specs.declared.answer.ReadAnswer.TheVariants.{Beyond, Gone, Shown}
 use Rattle.abstract_log.specs.declared.script.StageLine.{StageLine}
-use Rattle.abstract_log.specs.declared.world.World.{World}
+use Rattle.abstract_log.specs.declared.left.LeftAt.{LeftAt}
+use Rattle.abstract_log.specs.declared.left.Row.{Row}
+use Rattle.abstract_log.specs.declared.left.Row.TheVariants.{Kept, Gone as Collected}
+use Rattle.abstract_log.specs.Left.{left_of}
 use Rattle.abstract_log.specs.Runs.{world_of}
-use Rattle.report_text.specs.declared.report.Left.{Left}
 use Rattle.report_text.specs.Numbered.{flat_map_from, below}
 use Rattle.report_text.specs.Lines.{lines_text}
 use Rattle.report_text.specs.Values.{letter, name_word, counts_word, table_word, body_word, kind_word, names_words, place_words, places_words}
@@ -90,10 +92,6 @@ trace_lines events = (codes "trace" ∷ []) ∷ flat_map event_lines events
 
 -- What it left.
 
--- the position is among those that were collected
-abbrev pub is_collected : List ℕ → ℕ → Bool
-is_collected gone lid = list_any (λ q. q == lid) gone
-
 -- who wrote a record: its name, its kind, and the command
 abbrev pub writer_words : Record → List (List ℕ)
 writer_words r = name_word r.host r.toid ∷ kind_word r.kind ∷ index_words r.session r.index
@@ -105,45 +103,38 @@ content_words r = counts_word r.dep ∷ shown_words r.body r.tags
 abbrev pub record_words : ℕ → Record → List (List ℕ)
 record_words lid r = decimal lid ∷ (writer_words r ++ content_words r)
 
-abbrev pub gone_words : ℕ → Record → List (List ℕ)
-gone_words lid r = decimal lid ∷ name_word r.host r.toid ∷ codes "gone" ∷ []
+abbrev pub gone_words : ℕ → ℕ → ℕ → List (List ℕ)
+gone_words lid h t = decimal lid ∷ name_word h t ∷ codes "gone" ∷ []
 
--- the line of a position, with the record there or without it where it was collected
-abbrev pub position_lines : List ℕ → ℕ → Record → List (List (List ℕ))
-position_lines gone lid r = (if is_collected gone lid then gone_words lid r else record_words lid r) ∷ []
+-- a position, with the record there or its name alone
+abbrev pub row_words : ℕ → Row → List (List ℕ)
+row_words lid (Kept r) = record_words lid r
+row_words lid (Collected h t) = gone_words lid h t
+
+abbrev pub position_lines : ℕ → Row → List (List (List ℕ))
+position_lines lid row = row_words lid row ∷ []
 
 -- the log of a datacentre
-abbrev pub log_lines : ℕ → List Record → List ℕ → List (List (List ℕ))
-log_lines d log gone = (codes "log" ∷ letter d ∷ decimal (length log) ∷ []) ∷ flat_map_from (position_lines gone) 1 log
+abbrev pub log_lines : ℕ → List Row → List (List (List ℕ))
+log_lines d rows = (codes "log" ∷ letter d ∷ decimal (length rows) ∷ []) ∷ flat_map_from position_lines 1 rows
 
--- what a world has of it: the log of each datacentre, the positions collected there, and the tables
-abbrev pub left_of : World → Left
-left_of w = record { logs = w.logs; gone = w.gone; tables = w.tables }
-
--- there is a part for each of so many datacentres
-pub record AreOfDatacentres (dcs : ℕ) (left : Left) : Type 0 where
-  pub logs : length left.logs ≡ dcs
-  pub gone : length left.gone ≡ dcs
-  pub tables : length left.tables ≡ dcs
-
--- the log of one of the datacentres
-abbrev pub logged_lines : Left → ℕ → List (List (List ℕ))
-logged_lines left d = log_lines d (slice_index_or left.logs d []) (slice_index_or left.gone d [])
+abbrev pub logged_lines : ℕ → LeftAt → List (List (List ℕ))
+logged_lines d at = log_lines d at.rows
 
 -- a table
 abbrev pub table_lines : ℕ → List (List ℕ) → List (List (List ℕ))
 table_lines d table = (codes "table" ∷ letter d ∷ table_word table ∷ []) ∷ []
 
-abbrev pub tabled_lines : Left → ℕ → List (List (List ℕ))
-tabled_lines left d = table_lines d (slice_index_or left.tables d [])
-
 -- the log and the table of a datacentre
-abbrev pub datacentre_lines : Left → ℕ → List (List (List ℕ))
-datacentre_lines left d = logged_lines left d ++ tabled_lines left d
+abbrev pub datacentre_lines : ℕ → LeftAt → List (List (List ℕ))
+datacentre_lines d at = logged_lines d at ++ table_lines d at.table
 
--- the logs and tables of so many datacentres
-abbrev pub datacentres_lines : ℕ → Left → List (List (List ℕ))
-datacentres_lines dcs left = (codes "logs" ∷ []) ∷ below (datacentre_lines left) dcs
+-- the logs of all, and those with their tables
+abbrev pub all_logs_lines : List LeftAt → List (List (List ℕ))
+all_logs_lines left = flat_map_from logged_lines 0 left
+
+abbrev pub datacentres_lines : List LeftAt → List (List (List ℕ))
+datacentres_lines left = (codes "logs" ∷ []) ∷ flat_map_from datacentre_lines 0 left
 
 -- Replies.
 
@@ -193,11 +184,11 @@ stages_lines (Some stages) = (codes "stages" ∷ []) ∷ (flat_map (stage_lines 
 abbrev pub full_lines : Run → Option (List StageLine) → List (List (List ℕ))
 full_lines run stages =
     first_lines run.workload.dcs ++ workload_lines run.workload ++ stages_lines stages ++ trace_lines run.events
-    ++ datacentres_lines run.workload.dcs (left_of (world_of run.workload run.events)) ++ replies_lines run.events (length run.workload.sessions) ++ end_line
+    ++ datacentres_lines (left_of (world_of run.workload run.events)) ++ replies_lines run.events (length run.workload.sessions) ++ end_line
 
 -- the logs and the replies alone
 abbrev pub logs_lines : Run → List (List (List ℕ))
-logs_lines run = below (logged_lines (left_of (world_of run.workload run.events))) run.workload.dcs ++ replies_lines run.events (length run.workload.sessions) ++ end_line
+logs_lines run = all_logs_lines (left_of (world_of run.workload run.events)) ++ replies_lines run.events (length run.workload.sessions) ++ end_line
 
 abbrev pub full_text : Run → Option (List StageLine) → List ℕ
 full_text run stages = lines_text (full_lines run stages)

@@ -8,5 +8,5 @@ mod text;
 mod turns;
 mod values;
 
-pub use report::{Left, full, logs};
+pub use report::{full, logs};
 pub use text::Text;

@@ -46,4 +46,5 @@ announce_keeps w d z g t none late room inside h =
       aware = h.aware;
       below = h.below;
       safe = h.safe;
+      named = h.named;
     }

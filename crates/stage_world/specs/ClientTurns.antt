@@ -16,21 +16,11 @@ use Rattle.abstract_log.specs.declared.script.Outcome.TheVariants.{Absent, Unack
 use Rattle.abstract_log.specs.Commands.{draft_of}
 use Rattle.abstract_log.specs.Answers.{places_in, past_with, shown_record, found_record, last_of}
 use Rattle.flstore_rounds.specs.Heads.{head}
-use Rattle.stage_world.specs.Stages.{Datacentre, Session, Post, vector_at}
+use Rattle.tag_indexer.specs.Rows.{newest_row, tagged_places}
+pub use Rattle.hyksos.specs.Sessions.{next_index, replied}
+use Rattle.stage_world.specs.Stages.{Datacentre, Session, vector_at}
 use Rattle.stage_world.specs.Turns.{Turned, quiet, at_session, begun, submitted}
-use Rattle.stage_world.specs.MoreTurns.{record_kept, home_of, newest_row}
-
--- the number of the session's next or open command
-abbrev pub next_index : Session → ℕ
-next_index x = x.standing.answered + 1
-
--- a session whose command is answered at position s
-abbrev pub replied : Answer → ℕ → Session → Session
-replied answer s x = record x {
-  standing = record { answered = next_index x; begun = false; past = past_with x.standing.past (places_in answer); floor = s };
-  pin = None;
-  found = [];
-}
+use Rattle.stage_world.specs.MoreTurns.{record_kept, home_of}
 
 -- what a read of position p shows, seen at s
 abbrev pub shown_at : Datacentre → ℕ → ℕ → ReadAnswer
@@ -73,15 +63,6 @@ key_turn d z x keys s = option_map_or
     if nat_lt (head (home_of z key).pair) s then behind_turn z x key s
     else found_turn d z x keys s (x.found ++ looked_up z key s ∷ []))
     (slice_get keys (length x.found)) (quiet Absent z)
-
--- the row at position p, if it has the tag
-abbrev pub tagged_row : List Post → List ℕ → ℕ → Option Post
-tagged_row rows tag p = find (λ post. (post.place.lid == p) && list_any (λ t. bytes_eq t tag) post.tags) rows
-
--- the places of the rows up to s that have the tag, in rising order
-abbrev pub tagged_places : List Post → List ℕ → ℕ → List Place
-tagged_places rows tag zero = []
-tagged_places rows tag (suc s) = tagged_places rows tag s ++ option_to_list (option_map (λ post. post.place) (tagged_row rows tag (suc s)))
 
 -- the last n places under a tag up to s
 abbrev pub last_turn : ℕ → Datacentre → Session → List ℕ → ℕ → ℕ → Turned

@@ -174,7 +174,7 @@ fn a_put_is_read_elsewhere(rt: HostRuntime) -> Result<(), Fail> {
         Step::Client { s: 1 },
     ];
     take_all(&mut stages, &script.workload, &steps)?;
-    let played = stages.finish();
+    let played = stages.finish()?;
     assert_eq!(rt; played.stages.len(), 23);
     let lines = played.stages.as_slice();
     assert!(rt; matches!(&lines[0].outcome, Outcome::Submitted { k: 1 }));

@@ -1,11 +1,11 @@
 use Rattle.std.proofs.Common.{◌∙◌}
 use Rattle.std.specs.Option.{option_copied}
-use Rattle.report_text.proofs.LeftLemmas.{left_fits}
+use Rattle.report_text.proofs.LeftLemmas.{few_left}
 use Rattle.report_text.proofs.Whole.{full_told}
 use Rattle.report_text.proofs.report.full.Goals as goal
 
-pub put_datacentres-requires-clause-each : goal.put_datacentres-requires-clause-each
-put_datacentres-requires-clause-each c = left_fits _ _ _ c.requires.limits.workload c.requires.run c.requires.left
+pub put_datacentres-requires : goal.put_datacentres-requires
+put_datacentres-requires c = few_left _ _ _ c.requires.limits.workload c.requires.left
 
 pub returns : goal.returns
 returns c = c.into_bytes.ensures ∙ full_told c.args.run.now (option_copied c.args.stages) c.args.left.now _ _ _ _ _ _ _ _ _ c.requires.left c.len.ensures c.new-text.ensures

@@ -1,8 +1,8 @@
-use Rattle.std.proofs.Common.{◌≡◌, ◌++◌}
-use Rattle.report_text.specs.Numbered.{below}
+use Rattle.std.proofs.Common.{◌≡◌, ◌++◌, take}
+use Rattle.report_text.specs.Numbered.{flat_map_from}
 use Rattle.report_text.specs.Lines.{lines_text}
 use Rattle.report_text.specs.Report.{datacentre_lines}
 use Rattle.report_text.proofs.report.put_datacentres.Given as goal
 
 abbrev pub invariant-loop-number : goal.invariant-loop-number
-invariant-loop-number l = l.text ≡ l.initial.text ++ lines_text (below (datacentre_lines l.left) l.number)
+invariant-loop-number l = l.text ≡ l.initial.text ++ lines_text (flat_map_from datacentre_lines 0 (take l.number l.at-items))

@@ -1,7 +1,8 @@
+use Rattle.std.proofs.Common.{arith}
 use Rattle.report_text.specs.Lines.{line_text}
 use Rattle.report_text.specs.Report.{logged_lines}
-use Rattle.report_text.proofs.LineLemmas.{added_below}
+use Rattle.report_text.proofs.LineLemmas.{added_counted}
 use Rattle.report_text.proofs.report.put_logs.Goals as goal
 
 pub loop-number-preserved : goal.loop-number-preserved
-loop-number-preserved c = added_below line_text (logged_lines c.args.left.now) _ _ _ _ c.loop-number.invariant c.in_ok-put_logged.ensures
+loop-number-preserved c = added_counted line_text logged_lines _ _ _ _ _ _ c.loop-number.invariant c.in_ok-put_log.ensures (omega arith) c.at-item.is

@@ -5,4 +5,4 @@ use Rattle.report_text.proofs.LineLemmas.{added_numbered}
 use Rattle.report_text.proofs.report.put_positions.Goals as goal
 
 pub loop-at-preserved : goal.loop-at-preserved
-loop-at-preserved c = added_numbered line_text (position_lines c.args.gone.now) 1 _ _ _ _ _ _ c.loop-at.invariant c.in_ok-put_position.ensures (omega arith) c.rec-item.is
+loop-at-preserved c = added_numbered line_text position_lines 1 _ _ _ _ _ _ c.loop-at.invariant c.in_ok-put_position.ensures (omega arith) c.row-item.is

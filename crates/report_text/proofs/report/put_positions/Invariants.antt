@@ -5,4 +5,4 @@ use Rattle.report_text.specs.Report.{position_lines}
 use Rattle.report_text.proofs.report.put_positions.Given as goal
 
 abbrev pub invariant-loop-at : goal.invariant-loop-at
-invariant-loop-at l = l.text ≡ l.initial.text ++ lines_text (flat_map_from (position_lines l.gone) 1 (take l.at l.rec-items))
+invariant-loop-at l = l.text ≡ l.initial.text ++ lines_text (flat_map_from position_lines 1 (take l.at l.row-items))

@@ -1,7 +1,7 @@
 use Rattle.std.proofs.Common.{ap, ◌∙◌}
 use Rattle.std.specs.List.{list_any}
 use Rattle.stage_world.specs.Stages.{Datacentre}
-use Rattle.datacentre.specs.Seen.{is_unanswered}
+use Rattle.stage_turns.specs.Clients.{is_unanswered}
 use Rattle.datacentre.proofs.LiveLemmas.{some_is}
 use Rattle.datacentre.proofs.datacentre.Datacentre.unanswered.Goals as goal
 

@@ -1,5 +1,5 @@
 use Rattle.std.proofs.Common.{sym, ◌∙◌}
-use Rattle.datacentre.proofs.WholeTurns.{if_four}
+use Rattle.datacentre.proofs.WholeTurns.{if_five}
 use Rattle.datacentre.proofs.WholeLinks.{nobody_is, read_is, read_may, write_is, write_may}
 use Rattle.datacentre.proofs.parts.Parts.client.Goals as goal
 
@@ -14,13 +14,13 @@ client_read-requires c = read_may c.args.self.now c.args.s c.in-Some.at _ c.requ
 
 pub returns-then-writes : goal.returns-then-writes
 returns-then-writes c =
-    if_four c.client_write.result _ _ _ _ _ c.client_write.ensures.session c.client_write.ensures.batchers c.client_write.ensures.outcome c.client_write.ensures.events
-    (λ done session batchers outcome events. write_is c.args.self.now c.args.s c.in-Some.at c.item_mut.result.now c.requires.may c.in-Some.ensures c.item_mut.ensures.value
-    c.client_write.new.session c.client_write.new.batchers done (sym (c.writes.ensures _ c.item_mut.ensures.value) ∙ c.if-writes.true) session batchers outcome events)
+    if_five c.client_write.result _ _ _ _ _ _ c.client_write.ensures.session c.client_write.ensures.batchers c.client_write.ensures.outcome c.client_write.ensures.events c.client_write.ensures.changed
+    (λ done session batchers outcome events changed. write_is c.args.self.now c.args.s c.in-Some.at c.item_mut.result.now c.requires.may c.in-Some.ensures c.item_mut.ensures.value
+    c.client_write.new.session c.client_write.new.batchers done (sym (c.writes.ensures _ c.item_mut.ensures.value) ∙ c.if-writes.true) session batchers outcome events changed)
 
 pub returns-else-writes : goal.returns-else-writes
 returns-else-writes c =
-    if_four c.client_read.result _ _ _ _ _ c.client_read.ensures.session c.client_read.ensures.session c.client_read.ensures.outcome c.client_read.ensures.events
-    (λ done session same outcome events. read_is c.args.self.now c.args.s c.in-Some.at c.item_mut-else-writes.result.now c.requires.may c.in-Some.ensures c.item_mut-else-writes.ensures.value
+    if_five c.client_read.result _ _ _ _ _ _ c.client_read.ensures.session c.client_read.ensures.session c.client_read.ensures.outcome c.client_read.ensures.events c.client_read.ensures.changed
+    (λ done session same outcome events changed. read_is c.args.self.now c.args.s c.in-Some.at c.item_mut-else-writes.result.now c.requires.may c.in-Some.ensures c.item_mut-else-writes.ensures.value
     c.client_read.new.session c.client_read.new.maintainers c.client_read.new.vectors done c.requires.built (sym (c.writes.ensures _ c.item_mut-else-writes.ensures.value) ∙ c.if-writes.false)
-    session c.client_read.ensures.maintainers c.client_read.ensures.vectors outcome events)
+    session c.client_read.ensures.maintainers c.client_read.ensures.vectors outcome events changed)

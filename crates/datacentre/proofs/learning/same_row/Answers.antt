@@ -1,5 +1,0 @@
-use Rattle.datacentre.proofs.LearningLemmas.{same_stored}
-use Rattle.datacentre.proofs.learning.same_row.Goals as goal
-
-pub returns : goal.returns
-returns c = same_stored c.args.row.now c.args.other.now c.eq.result c.eq.ensures

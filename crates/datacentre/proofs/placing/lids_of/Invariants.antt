@@ -1,6 +1,0 @@
-use Rattle.std.proofs.Common.{◌≡◌, map, take}
-use Rattle.datacentre.specs.Placing.{lid_of}
-use Rattle.datacentre.proofs.placing.lids_of.Given as goal
-
-abbrev pub invariant-loop-entry : goal.invariant-loop-entry
-invariant-loop-entry l = l.lids ≡ map lid_of (take l.entry-index l.entry-items)

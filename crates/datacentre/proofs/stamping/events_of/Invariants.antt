@@ -1,6 +1,0 @@
-use Rattle.std.proofs.Common.{◌≡◌, map, take}
-use Rattle.datacentre.specs.Stamping.{event_of}
-use Rattle.datacentre.proofs.stamping.events_of.Given as goal
-
-abbrev pub invariant-loop-stamp : goal.invariant-loop-stamp
-invariant-loop-stamp l = l.events ≡ map (event_of l.dc) (take l.stamp-index l.stamp-items)

@@ -1,0 +1,4 @@
+pub mod Sessions
+pub mod Shelves
+pub mod Turns
+pub mod Looking

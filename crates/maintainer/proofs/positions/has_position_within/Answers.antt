@@ -1,0 +1,10 @@
+use Rattle.maintainer.proofs.PositionLemmas.{within_first, within_none}
+use Rattle.maintainer.proofs.positions.has_position_within.Goals as goal
+
+pub returns-in-Some : goal.returns-in-Some
+returns-in-Some c =
+    let found = c.in-Some.ensures.lookup in
+    within_first _ _ _ c.positions_below.ensures.below c.positions_below.ensures.above _ _ c.requires found.3.0 found.1
+
+pub returns-in-None : goal.returns-in-None
+returns-in-None c = within_none _ _ _ c.positions_below.ensures.below c.positions_below.ensures.above _ c.in-None.ensures.lookup.3

@@ -1,0 +1,290 @@
+-- What a sender reads of its maintainers: the entries by rising position.
+use Rattle.std.proofs.Common.{◌≡◌, ℕ, suc, ◌+◌, ◌-◌, ◌%◌, ◌<◌, ◌≤◌, cond, ltb, eqb, List, [], ◌∷◌, ◌++◌, length, get_or, take, find, Option, Some, None, IsSome, refl, ap, sym, ◌∙◌, subst, inl, inr, arith}
+use Rattle.std.specs.List.{All, Contains, flat_map, fold, sum_by}
+use Rattle.std.specs.Option.{option_map}
+use Rattle.std.proofs.Math.Seq.{take-suc, take-length}
+use Rattle.std.proofs.lemmas.Bool.{cases_lt, cases_eq, cond-true, cond-false, cond_both, eq-eqb, ne_eqb, lt-ltb, le-ltb}
+use Rattle.std.proofs.lemmas.Grind.{flat_map-append}
+use Rattle.std.proofs.lemmas.List.{append-nil}
+use Rattle.std.proofs.lemmas.List.Elements.{All-nil, All-cons, All-head, All-tail, All-append, Contains-append_left, Contains-append_right}
+use Rattle.std.proofs.lemmas.List.Sums.{sum_by-cons, sum_by-append}
+use Rattle.causal_deps.specs.declared.record.Record.{Record}
+use Rattle.maintainer.specs.declared.slot.Slot.{Slot}
+use Rattle.maintainer.specs.Maintainers.{AreRising, MaintainerState, entry_after, times_in}
+use Rattle.maintainer.proofs.CountLemmas.{rising-tail}
+use Rattle.sender_receiver.specs.Stocks.{Stocked, IsRisingFrom, record_at}
+use Rattle.stage_world.specs.Stages.{filled}
+use Rattle.stage_world.specs.MoreTurns.{sorted_in, stock_of, stocked}
+use Rattle.stage_world.proofs.ListLemmas.{Contains-head, Contains-tail, Contains-cases}
+use Rattle.stage_turns.specs.Told.{AreApart, nearer_of}
+
+-- the entries of the maintainers that sender k of n reads
+abbrev pub read_by : ℕ → ℕ → List (MaintainerState Record) → List (Slot Record)
+read_by k n ms = flat_map (λ m. cond (eqb (m.number % n) k) m.entries []) ms
+
+abbrev sorted_with : List Stocked → List (Slot Record) → List Stocked
+sorted_with held es = fold (λ ys e. sorted_in (stocked e) ys) held es
+
+-- an entry in its place
+
+All-sorted_in : (P : Stocked → Type 0) (e : Stocked) (es : List Stocked) → P e → All P es → All P (sorted_in e es)
+All-sorted_in P e [] here all = All-cons P e [] here all
+All-sorted_in P e (x ∷ xs) here all = cond_both (ltb e.lid x.lid) (e ∷ x ∷ xs) (x ∷ sorted_in e xs) (All P)
+    (λ _. All-cons P e (x ∷ xs) here all)
+    (λ _. All-cons P x (sorted_in e xs) (All-head P x xs all) (All-sorted_in P e xs here (All-tail P x xs all)))
+
+Contains-sorted_in : (e x : Stocked) (es : List Stocked) → Contains es x → Contains (sorted_in e es) x
+Contains-sorted_in e x [] has = absurd (omega (arith, has.1))
+Contains-sorted_in e x (y ∷ ys) has = cond_both (ltb e.lid y.lid) (e ∷ y ∷ ys) (y ∷ sorted_in e ys) (λ zs. Contains zs x)
+    (λ _. Contains-tail e x (y ∷ ys) has)
+    (λ _. elim (Contains-cases y x ys has) [
+      | inl same ↦ subst (λ z. Contains (z ∷ sorted_in e ys) x) (sym same) (Contains-head x (sorted_in e ys))
+      | inr later ↦ Contains-tail y x (sorted_in e ys) (Contains-sorted_in e x ys later)
+    ])
+
+there-sorted_in : (e : Stocked) (es : List Stocked) → Contains (sorted_in e es) e
+there-sorted_in e [] = Contains-head e []
+there-sorted_in e (y ∷ ys) = cond_both (ltb e.lid y.lid) (e ∷ y ∷ ys) (y ∷ sorted_in e ys) (λ zs. Contains zs e)
+    (λ _. Contains-head e (y ∷ ys))
+    (λ _. Contains-tail y e (sorted_in e ys) (there-sorted_in e ys))
+
+rising-sorted_in : (low : ℕ) (e : Stocked) (es : List Stocked) → IsRisingFrom low es → low < e.lid → All (λ (x : Stocked). x.lid ≡ e.lid → ⊥) es → IsRisingFrom low (sorted_in e es)
+rising-sorted_in low e [] rising past apart = (past, tt)
+rising-sorted_in low e (x ∷ xs) rising past apart = elim (cases_lt e.lid x.lid) [
+  | inl first ↦ subst (IsRisingFrom low) (sym (cond-true (ltb e.lid x.lid) (e ∷ x ∷ xs) (x ∷ sorted_in e xs) (lt-ltb e.lid x.lid first))) (past, (first, rising.1))
+  | inr later ↦
+      let other = All-head (λ (y : Stocked). y.lid ≡ e.lid → ⊥) x xs apart in
+      let behind : x.lid < e.lid = elim (cases_eq x.lid e.lid) [ inl same ↦ absurd (other same) | inr not ↦ omega (arith, not) ] in
+      subst (IsRisingFrom low) (sym (cond-false (ltb e.lid x.lid) (e ∷ x ∷ xs) (x ∷ sorted_in e xs) (le-ltb e.lid x.lid later)))
+      (rising.0, rising-sorted_in x.lid e xs rising.1 behind (All-tail (λ (y : Stocked). y.lid ≡ e.lid → ⊥) x xs apart))
+]
+
+-- several entries
+
+pub All-sorted : (P : Stocked → Type 0) (held : List Stocked) (es : List (Slot Record)) → All P held → All (λ e. P (stocked e)) es → All P (sorted_with held es)
+All-sorted P held [] had all = had
+All-sorted P held (e ∷ es) had all =
+    All-sorted P (sorted_in (stocked e) held) es (All-sorted_in P (stocked e) held (All-head (λ x. P (stocked x)) e es all) had) (All-tail (λ x. P (stocked x)) e es all)
+
+Contains-sorted : (x : Stocked) (held : List Stocked) (es : List (Slot Record)) → Contains held x → Contains (sorted_with held es) x
+Contains-sorted x held [] has = has
+Contains-sorted x held (e ∷ es) has = Contains-sorted x (sorted_in (stocked e) held) es (Contains-sorted_in (stocked e) x held has)
+
+there-sorted : (e : Slot Record) (held : List Stocked) (es : List (Slot Record)) → Contains es e → Contains (sorted_with held es) (stocked e)
+there-sorted e held [] has = absurd (omega (arith, has.1))
+there-sorted e held (y ∷ ys) has = elim (Contains-cases y e ys has) [
+  | inl same ↦ Contains-sorted (stocked e) (sorted_in (stocked y) held) ys (subst (λ z. Contains (sorted_in (stocked z) held) (stocked e)) (sym same) (there-sorted_in (stocked e) held))
+  | inr later ↦ there-sorted e (sorted_in (stocked y) held) ys later
+]
+
+-- the entries are apart from one another and from what is held
+rising-sorted : (held : List Stocked) (es : List (Slot Record)) → IsRisingFrom 0 held → All (λ (e : Slot Record). 1 ≤ e.lid) es → ((p : ℕ) → times_in p es ≤ 1)
+    → All (λ (x : Stocked). times_in x.lid es ≡ 0) held → IsRisingFrom 0 (sorted_with held es)
+rising-sorted held [] rising first once apart = rising
+rising-sorted held (e ∷ es) rising first once apart =
+    let count : (p : ℕ) → times_in p (e ∷ es) ≡ cond (eqb e.lid p) 1 0 + times_in p es = λ p. sum_by-cons (λ (x : Slot Record). cond (eqb x.lid p) 1 0) e es in
+    let here : cond {A = ℕ} (eqb e.lid e.lid) 1 0 ≡ 1 = cond-true {A = ℕ} (eqb e.lid e.lid) 1 0 (eq-eqb e.lid e.lid refl) in
+    let others : All (λ (x : Stocked). x.lid ≡ e.lid → ⊥) held = λ k x within same.
+    absurd (omega (arith, apart k x within, count (get_or held k x).lid, cond-true {A = ℕ} (eqb e.lid (get_or held k x).lid) 1 0 (eq-eqb e.lid (get_or held k x).lid (sym same)))) in
+    let still : All (λ (x : Stocked). times_in x.lid es ≡ 0) held = λ k x within. omega (arith, apart k x within, count (get_or held k x).lid) in
+    let none : times_in e.lid es ≡ 0 = omega (arith, once e.lid, count e.lid, here) in
+    rising-sorted (sorted_in (stocked e) held) es
+    (rising-sorted_in 0 (stocked e) held rising (All-head (λ (x : Slot Record). 1 ≤ x.lid) e es first) others)
+    (All-tail (λ (x : Slot Record). 1 ≤ x.lid) e es first)
+    (λ p. omega (arith, once p, count p))
+    (All-sorted_in (λ (x : Stocked). times_in x.lid es ≡ 0) (stocked e) held none still)
+
+-- the maintainers that are read
+
+pub All-read_by : (P : Slot Record → Type 0) (k n : ℕ) (ms : List (MaintainerState Record)) → All (λ m. All P m.entries) ms → All P (read_by k n ms)
+All-read_by P k n [] all = All-nil P
+All-read_by P k n (m ∷ ms) all = All-append P (cond (eqb (m.number % n) k) m.entries []) (read_by k n ms)
+    (cond_both (eqb (m.number % n) k) m.entries [] (All P) (λ _. All-head (λ (x : MaintainerState Record). All P x.entries) m ms all) (λ _. All-nil P))
+    (All-read_by P k n ms (All-tail (λ (x : MaintainerState Record). All P x.entries) m ms all))
+
+times-read_by : (p k n : ℕ) (ms : List (MaintainerState Record)) → times_in p (read_by k n ms) ≤ filled p ms
+times-read_by p k n [] = omega arith
+times-read_by p k n (m ∷ ms) =
+    let chosen : times_in p (cond (eqb (m.number % n) k) m.entries []) ≤ times_in p m.entries = cond_both (eqb (m.number % n) k) m.entries [] (λ es. times_in p es ≤ times_in p m.entries) (λ _. omega arith) (λ _. omega arith) in
+    omega (
+      arith,
+      chosen,
+      times-read_by p k n ms,
+      sum_by-append (λ (x : Slot Record). cond (eqb x.lid p) 1 0) (cond (eqb (m.number % n) k) m.entries []) (read_by k n ms),
+      sum_by-cons (λ (x : MaintainerState Record). times_in p x.entries + sum_by (λ (q : ℕ). cond (eqb q p) 1 0) x.gone) m ms,
+    )
+
+pub stock_rises : (ms : List (MaintainerState Record)) (k n : ℕ) → AreApart ms → IsRisingFrom 0 (stock_of ms k n)
+stock_rises ms k n apart =
+    rising-sorted [] (read_by k n ms) tt (All-read_by (λ (e : Slot Record). 1 ≤ e.lid) k n ms apart.first)
+    (λ p. omega (arith, times-read_by p k n ms, apart.once p)) (All-nil (λ (x : Stocked). times_in x.lid (read_by k n ms) ≡ 0))
+
+-- the entry at the least position above p
+
+pub record HasNearest (es : List (Slot Record)) (p : ℕ) (e : Slot Record) : Type 0 where
+  pub past : p < e.lid
+  pub there : Contains es e
+  pub least : All (λ (x : Slot Record). p < x.lid → e.lid ≤ x.lid) es
+
+abbrev pub IsNearest : List (Slot Record) → ℕ → Option (Slot Record) → Type 0
+IsNearest es p None = All (λ (e : Slot Record). e.lid ≤ p) es
+IsNearest es p (Some e) = HasNearest es p e
+
+nearest_behind : (x : Slot Record) (xs : List (Slot Record)) (p : ℕ) (o : Option (Slot Record)) → x.lid ≤ p → IsNearest xs p o → IsNearest (x ∷ xs) p o
+nearest_behind x xs p None low h = All-cons (λ (e : Slot Record). e.lid ≤ p) x xs low h
+nearest_behind x xs p (Some e) low h = record {
+  past = h.past;
+  there = Contains-tail x e xs h.there;
+  least = All-cons (λ (y : Slot Record). p < y.lid → e.lid ≤ y.lid) x xs (λ past. absurd (omega (arith, low, past))) h.least;
+}
+
+after_is_nearest : (es : List (Slot Record)) (p : ℕ) → AreRising es → IsNearest es p (entry_after p es)
+after_is_nearest [] p rising = All-nil (λ (e : Slot Record). e.lid ≤ p)
+after_is_nearest (x ∷ xs) p rising = elim (cases_lt p x.lid) [
+  | inl past ↦ subst (IsNearest (x ∷ xs) p) (sym (cond-true (ltb p x.lid) (Some x) (entry_after p xs) (lt-ltb p x.lid past))) (record {
+    past = past;
+    there = Contains-head x xs;
+    least = All-cons (λ (y : Slot Record). p < y.lid → x.lid ≤ y.lid) x xs (λ _. omega arith) (λ k y within _. omega (arith, rising.below 0 (suc k) y (omega arith) (omega arith)));
+  })
+  | inr low ↦ subst (IsNearest (x ∷ xs) p) (sym (cond-false (ltb p x.lid) (Some x) (entry_after p xs) (le-ltb p x.lid low)))
+      (nearest_behind x xs p (entry_after p xs) low (after_is_nearest xs p (rising-tail x xs rising)))
+]
+
+-- the nearer of two is the nearest of both
+nearest_left : (xs ys : List (Slot Record)) (p : ℕ) (e : Slot Record) → HasNearest xs p e → All (λ (x : Slot Record). p < x.lid → e.lid ≤ x.lid) ys → HasNearest (xs ++ ys) p e
+nearest_left xs ys p e h rest = record {
+  past = h.past;
+  there = Contains-append_left xs ys e h.there;
+  least = All-append (λ (x : Slot Record). p < x.lid → e.lid ≤ x.lid) xs ys h.least rest;
+}
+
+nearest_right : (xs ys : List (Slot Record)) (p : ℕ) (e : Slot Record) → HasNearest ys p e → All (λ (x : Slot Record). p < x.lid → e.lid ≤ x.lid) xs → HasNearest (xs ++ ys) p e
+nearest_right xs ys p e h front = record {
+  past = h.past;
+  there = Contains-append_right xs ys e h.there;
+  least = All-append (λ (x : Slot Record). p < x.lid → e.lid ≤ x.lid) xs ys front h.least;
+}
+
+none_past : (es : List (Slot Record)) (p : ℕ) (e : Slot Record) → All (λ (x : Slot Record). x.lid ≤ p) es → All (λ (x : Slot Record). p < x.lid → e.lid ≤ x.lid) es
+none_past es p e low = λ k x within past. absurd (omega (arith, low k x within, past))
+
+farther : (es : List (Slot Record)) (p : ℕ) (a b : Slot Record) → a.lid ≤ b.lid → HasNearest es p b → All (λ (x : Slot Record). p < x.lid → a.lid ≤ x.lid) es
+farther es p a b le h = λ k x within past. omega (arith, le, h.least k x within past)
+
+nearest_of_both : (xs ys : List (Slot Record)) (p : ℕ) (a b : Option (Slot Record)) → IsNearest xs p a → IsNearest ys p b → IsNearest (xs ++ ys) p (nearer_of a b)
+nearest_of_both xs ys p None None h g = All-append (λ (e : Slot Record). e.lid ≤ p) xs ys h g
+nearest_of_both xs ys p None (Some b) h g = nearest_right xs ys p b g (none_past xs p b h)
+nearest_of_both xs ys p (Some a) None h g = nearest_left xs ys p a h (none_past ys p a g)
+nearest_of_both xs ys p (Some a) (Some b) h g = elim (cases_lt b.lid a.lid) [
+  | inl nearer ↦ subst (IsNearest (xs ++ ys) p) (sym (cond-true (ltb b.lid a.lid) (Some b) (Some a) (lt-ltb b.lid a.lid nearer))) (nearest_right xs ys p b g (farther xs p b a (omega arith) h))
+  | inr not ↦ subst (IsNearest (xs ++ ys) p) (sym (cond-false (ltb b.lid a.lid) (Some b) (Some a) (le-ltb b.lid a.lid not))) (nearest_left xs ys p a h (farther ys p a b not g))
+]
+
+-- maintainer after maintainer
+
+read_by_more : (k n i : ℕ) (ms : List (MaintainerState Record)) (m : MaintainerState Record) → i < length ms → m ≡ get_or ms i m
+    → read_by k n (take (i + 1) ms) ≡ read_by k n (take i ms) ++ cond (eqb (m.number % n) k) m.entries []
+read_by_more k n i ms m within is =
+    let next : i + 1 ≡ suc i = omega arith in
+    let one : read_by k n (m ∷ []) ≡ cond (eqb (m.number % n) k) m.entries [] = append-nil (cond (eqb (m.number % n) k) m.entries []) in
+    ap (λ j. read_by k n (take j ms)) next
+    ∙ ap (read_by k n) (take-suc ms i m within)
+    ∙ ap (λ x. read_by k n (take i ms ++ x ∷ [])) (sym is)
+    ∙ flat_map-append (λ (x : MaintainerState Record). cond (eqb (x.number % n) k) x.entries []) (take i ms) (m ∷ [])
+    ∙ ap (λ es. read_by k n (take i ms) ++ es) one
+
+pub nearest_with : (k n i p : ℕ) (ms : List (MaintainerState Record)) (m : MaintainerState Record) (a new b : Option (Slot Record)) → i < length ms → m ≡ get_or ms i m → m.number % n ≡ k
+    → AreRising m.entries → b ≡ entry_after p m.entries → new ≡ nearer_of a b → IsNearest (read_by k n (take i ms)) p a → IsNearest (read_by k n (take (i + 1) ms)) p new
+nearest_with k n i p ms m a new b within is chosen rising after nearer h =
+    let whole = read_by_more k n i ms m within is ∙ ap (λ es. read_by k n (take i ms) ++ es) (cond-true (eqb (m.number % n) k) m.entries [] (eq-eqb (m.number % n) k chosen)) in
+    let both : IsNearest (read_by k n (take i ms) ++ m.entries) p (nearer_of a (entry_after p m.entries)) = nearest_of_both (read_by k n (take i ms)) m.entries p a (entry_after p m.entries) h (after_is_nearest m.entries p rising) in
+    let P : List (Slot Record) → Type 0 = λ es. IsNearest es p new in
+    subst P (sym whole) (subst (IsNearest (read_by k n (take i ms) ++ m.entries) p) (ap (nearer_of a) (sym after) ∙ sym nearer) both)
+
+pub nearest_without : (k n i p : ℕ) (ms : List (MaintainerState Record)) (m : MaintainerState Record) (a new : Option (Slot Record)) → i < length ms → m ≡ get_or ms i m → (m.number % n ≡ k → ⊥)
+    → new ≡ a → IsNearest (read_by k n (take i ms)) p a → IsNearest (read_by k n (take (i + 1) ms)) p new
+nearest_without k n i p ms m a new within is other same h =
+    let whole = read_by_more k n i ms m within is ∙ ap (λ es. read_by k n (take i ms) ++ es) (cond-false (eqb (m.number % n) k) m.entries [] (ne_eqb (m.number % n) k other)) ∙ append-nil (read_by k n (take i ms)) in
+    subst (λ es. IsNearest es p new) (sym whole) (subst (IsNearest (read_by k n (take i ms)) p) (sym same) h)
+
+pub none_read : (k n p : ℕ) (ms : List (MaintainerState Record)) → IsNearest (read_by k n (take 0 ms)) p None
+none_read k n p ms = All-nil (λ (e : Slot Record). e.lid ≤ p)
+
+-- in a list that rises, the nearest is the first that is above
+
+above_low : (low : ℕ) (held : List Stocked) (x : Stocked) → IsRisingFrom low held → Contains held x → low < x.lid
+above_low low [] x rising has = absurd (omega (arith, has.1))
+above_low low (y ∷ ys) x rising has = elim (Contains-cases y x ys has) [
+  | inl same ↦ omega (arith, rising.0, ap (λ (s : Stocked). s.lid) same)
+  | inr later ↦ omega (arith, rising.0, above_low y.lid ys x rising.1 later)
+]
+
+first_is : (held : List Stocked) (low p : ℕ) (x : Stocked) → IsRisingFrom low held → p < x.lid → Contains held x → All (λ (y : Stocked). p < y.lid → x.lid ≤ y.lid) held
+    → find (λ (y : Stocked). ltb p y.lid) held ≡ Some x
+first_is [] low p x rising past has least = absurd (omega (arith, has.1))
+first_is (y ∷ ys) low p x rising past has least = elim (Contains-cases y x ys has) [
+  | inl same ↦
+      let here : p < y.lid = omega (arith, past, ap (λ (s : Stocked). s.lid) same) in
+      cond-true (ltb p y.lid) (Some y) (find (λ (z : Stocked). ltb p z.lid) ys) (lt-ltb p y.lid here) ∙ ap (λ s. Some s) same
+  | inr later ↦ elim (cases_lt p y.lid) [
+    | inl early ↦ absurd (omega (arith, All-head (λ (z : Stocked). p < z.lid → x.lid ≤ z.lid) y ys least early, above_low y.lid ys x rising.1 later))
+    | inr low_one ↦
+        cond-false (ltb p y.lid) (Some y) (find (λ (z : Stocked). ltb p z.lid) ys) (le-ltb p y.lid low_one)
+        ∙ first_is ys y.lid p x rising.1 past later (All-tail (λ (z : Stocked). p < z.lid → x.lid ≤ z.lid) y ys least)
+  ]
+]
+
+none_is : (held : List Stocked) (p : ℕ) → All (λ (y : Stocked). y.lid ≤ p) held → find (λ (y : Stocked). ltb p y.lid) held ≡ None
+none_is [] p low = refl
+none_is (y ∷ ys) p low =
+    cond-false (ltb p y.lid) (Some y) (find (λ (z : Stocked). ltb p z.lid) ys) (le-ltb p y.lid (All-head (λ (z : Stocked). z.lid ≤ p) y ys low))
+    ∙ none_is ys p (All-tail (λ (z : Stocked). z.lid ≤ p) y ys low)
+
+pub nearest_is : (ms : List (MaintainerState Record)) (k n p : ℕ) (o : Option (Slot Record)) → AreApart ms → IsNearest (read_by k n ms) p o
+    → option_map stocked o ≡ find (λ (x : Stocked). ltb p x.lid) (stock_of ms k n)
+nearest_is ms k n p None apart h = sym (none_is (stock_of ms k n) p (All-sorted (λ (y : Stocked). y.lid ≤ p) [] (read_by k n ms) (All-nil (λ (y : Stocked). y.lid ≤ p)) h))
+nearest_is ms k n p (Some e) apart h =
+    sym (first_is (stock_of ms k n) 0 p (stocked e) (stock_rises ms k n apart) h.past (there-sorted e [] (read_by k n ms) h.there)
+    (All-sorted (λ (y : Stocked). p < y.lid → e.lid ≤ y.lid) [] (read_by k n ms) (All-nil (λ (y : Stocked). p < y.lid → e.lid ≤ y.lid)) h.least))
+
+-- what is at a place is the first above the place before it
+pub record IsAtPlace (held : List Stocked) (low p : ℕ) : Type 0 where
+  pub past : low < p
+  pub is : record_at held p ≡ option_map (λ (x : Stocked). x.rec) (find (λ (x : Stocked). ltb (p - 1) x.lid) held)
+
+pub at_place : (held : List Stocked) (low p : ℕ) → IsRisingFrom low held → IsSome (record_at held p) → IsAtPlace held low p
+at_place [] low p rising some = absurd (cc)
+at_place (y ∷ ys) low p rising some = elim (cases_eq y.lid p) [
+  | inl same ↦
+      let before : p - 1 < y.lid = omega (arith, same, rising.0) in
+      record {
+        past = omega (arith, same, rising.0);
+        is = ap (option_map (λ (x : Stocked). x.rec)) (cond-true (eqb y.lid p) (Some y) (find (λ (x : Stocked). eqb x.lid p) ys) (eq-eqb y.lid p same)
+            ∙ sym (cond-true (ltb (p - 1) y.lid) (Some y) (find (λ (x : Stocked). ltb (p - 1) x.lid) ys) (lt-ltb (p - 1) y.lid before)));
+      }
+  | inr other ↦
+      let on : record_at (y ∷ ys) p ≡ record_at ys p = ap (option_map (λ (x : Stocked). x.rec)) (cond-false (eqb y.lid p) (Some y) (find (λ (x : Stocked). eqb x.lid p) ys) (ne_eqb y.lid p other)) in
+      let rest : IsAtPlace ys y.lid p = at_place ys y.lid p rising.1 (subst (λ (o : Option Record). IsSome o) on some) in
+      let behind : y.lid ≤ p - 1 = omega (arith, rest.past) in
+      record {
+        past = omega (arith, rising.0, rest.past);
+        is = on ∙ rest.is ∙ sym (ap (option_map (λ (x : Stocked). x.rec)) (cond-false (ltb (p - 1) y.lid) (Some y) (find (λ (x : Stocked). ltb (p - 1) x.lid) ys) (le-ltb (p - 1) y.lid behind)));
+      }
+]
+
+pub not_missing : (held : List Stocked) (p : ℕ) (o : Option (Slot Record)) → IsRisingFrom 0 held → IsSome (record_at held p) → option_map stocked o ≡ find (λ (x : Stocked). ltb (p - 1) x.lid) held → o ≡ None → ⊥
+not_missing held p o rising some next none =
+    let is : record_at held p ≡ None = (at_place held 0 p rising some).is ∙ ap (option_map (λ (x : Stocked). x.rec)) (sym next ∙ ap (option_map stocked) none) in
+    let bad : IsSome {T = Record} None = subst (λ (r : Option Record). IsSome r) is some in
+    absurd (cc)
+
+pub read_there : (held : List Stocked) (p : ℕ) (o : Option (Slot Record)) (e : Slot Record) → IsRisingFrom 0 held → IsSome (record_at held p) → option_map stocked o ≡ find (λ (x : Stocked). ltb (p - 1) x.lid) held → o ≡ Some e
+    → record_at held p ≡ Some e.value
+read_there held p o e rising some next is =
+    (at_place held 0 p rising some).is ∙ ap (option_map (λ (x : Stocked). x.rec)) (sym next ∙ ap (option_map stocked) is)
+
+pub nearest_at_end : (ms items : List (MaintainerState Record)) (k n i p : ℕ) (o : Option (Slot Record)) → items ≡ ms → i ≡ length items → AreApart ms → IsNearest (read_by k n (take i items)) p o
+    → option_map stocked o ≡ find (λ (x : Stocked). ltb p x.lid) (stock_of ms k n)
+nearest_at_end ms items k n i p o same whole apart h =
+    let P : List (MaintainerState Record) → Type 0 = λ xs. IsNearest (read_by k n xs) p o in
+    nearest_is ms k n p o apart (subst P (ap (λ j. take j items) whole ∙ take-length items ∙ same) h)

@@ -1,0 +1,12 @@
+pub mod Lent
+pub mod Stamping
+pub mod Flushing
+pub mod Shelves
+pub mod Clients
+pub mod Changing
+pub mod Placing
+pub mod Telling
+pub mod Learning
+pub mod Told
+pub mod Rising
+pub mod Collecting

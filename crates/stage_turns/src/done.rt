@@ -1,0 +1,21 @@
+ghost use Rattle.std.specs.Prelude.{◌≡◌};
+ghost use Rattle.stage_turns.specs.Changing.{has_some};
+
+use abstract_log::{Event, Outcome};
+use cz_base::Seq;
+
+/// What a turn answers, the events of the log that it makes, and whether a stage of the datacentre is then another one. An
+/// epoch list that a queue, a maintainer or a vector takes over is no change.
+#[derive(Debug, Drop)]
+pub struct TurnDone {
+    pub outcome: Outcome,
+    pub events: Seq<Event>,
+    pub changed: bool,
+}
+
+// Whether something is in the list.
+pub(crate) fn has_some<T>(items: &Seq<T>) -> bool
+    ensures { result ≡ has_some items.now }
+{
+    !items.is_empty()
+}

@@ -1,0 +1,34 @@
+//! The turns of the stages of one datacentre, each lent just the stages that its line names.
+//!
+//! The model is plain data: lists of items, records, entries and counts, in the words of the stage world. The theorem for the
+//! layer above: what each function leaves of the stages that it is lent, what it answers and its events are the turn's
+//! equation there. Where stages stand for a log, each may be called.
+#![tactic(auto)]
+
+mod client;
+mod collecting;
+mod done;
+mod flushing;
+mod learning;
+mod placing;
+mod receiving;
+mod ring;
+mod sender_stock;
+mod sending;
+mod shelving;
+mod stage_shelf;
+mod stamping;
+mod stocking;
+mod telling;
+
+pub use client::{client_read, client_write};
+pub use collecting::{collect, floor};
+pub use done::TurnDone;
+pub use flushing::{flush, pass};
+pub use learning::learn;
+pub use placing::place;
+pub use receiving::deliver;
+pub use ring::{holder, token};
+pub use sending::{SendDone, has_more, send};
+pub use stamping::{place_of, stamp};
+pub use telling::gossip;

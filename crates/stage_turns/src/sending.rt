@@ -1,0 +1,104 @@
+ghost use Rattle.std.specs.Prelude.{◌≡◌, ◌≢◌, ◌↔◌, ◌≤◌, [], false, length, IfOk, IsTrue};
+ghost use Rattle.abstract_log.specs.declared.script.Outcome.TheVariants.{Sent};
+ghost use Rattle.record_codec.specs.Wire.{SpellsMessage};
+ghost use Rattle.sender_receiver.specs.Choosing.{first_new, is_new};
+ghost use Rattle.sender_receiver.specs.Stocks.{records_in};
+ghost use Rattle.stage_world.specs.MoreTurns.{names_of};
+ghost use Rattle.stage_turns.specs.Told.{MayLook, MayTell, told_by};
+
+use crate::TurnDone;
+use crate::receiving::{message_in, names_of};
+use crate::sender_stock::SenderStock;
+use abstract_log::Outcome;
+use awareness_table::Aware;
+use causal_deps::Record;
+use cz_base::{DcId, NoMemory, Seq, Toid};
+use lossy_links::Packet;
+use maintainer::Maintainer;
+use sender_receiver::{Sender, Stock};
+
+/// What a sender's turn answers, and the packet that goes into the link.
+#[derive(Debug, Drop)]
+pub struct SendDone {
+    pub done: TurnDone,
+    pub packet: Packet,
+}
+
+/// Sender k of so many makes its message to a datacentre of the records of the maintainers m with m modulo that many
+/// equal to k. The outcome is that of an empty link, into which the packet is still to go.
+pub fn send(
+    to: DcId,
+    k: u32,
+    senders: u32,
+    sender: &mut Sender,
+    maintainers: &Seq<Maintainer<Record>>,
+    table: &Aware,
+) -> Result<SendDone, NoMemory>
+    requires { MayTell sender.old.dc to k senders maintainers.now table.now.table }
+    ensures packet { IfOk result (λ sent. SpellsMessage (length table.now.table) sent.packet (told_by sender.old.dc to k senders maintainers.now table.now.table)) }
+    ensures outcome { IfOk result (λ sent. sent.done.outcome ≡ Sent (names_of (told_by sender.old.dc to k senders maintainers.now table.now.table).records) 0 false) }
+    ensures events { IfOk result (λ sent. sent.done.events ≡ []) }
+    ensures changed { IfOk result (λ sent. sent.done.changed ≡ false) }
+    ensures sender { sender.new ≡ sender.old }
+{
+    let stock = SenderStock {
+        maintainers,
+        k,
+        senders,
+    };
+    let packet = Packet::from_vec(sender.build(to, table, &stock)?);
+    let alloc = maintainers.alloc();
+    // The outcome names what the packet tells, so it is read there.
+    let told = message_in(alloc, &packet, table)?;
+    let outcome = Outcome::Sent {
+        names: names_of(&told.records)?,
+        link: 0,
+        lost: false,
+    };
+    let done = TurnDone {
+        outcome,
+        events: Seq::new(alloc),
+        changed: false,
+    };
+    Ok(SendDone { done, packet })
+}
+
+/// Whether the message of sender k of so many at `dc` to a datacentre would hold a record. No memory is taken.
+pub fn has_more(
+    dc: DcId,
+    to: DcId,
+    k: u32,
+    senders: u32,
+    maintainers: &Seq<Maintainer<Record>>,
+    table: &Aware,
+) -> bool
+    requires { MayLook dc to senders maintainers.now table.now.table }
+    ensures { IsTrue result ↔ ((told_by dc to k senders maintainers.now table.now.table).records ≢ []) }
+{
+    let stock = SenderStock {
+        maintainers,
+        k,
+        senders,
+    };
+    has_news(dc, table.table().row(to).get(dc), &stock)
+}
+
+// Whether the stock has a record of this host above the number that is known.
+fn has_news<T: Stock>(host: DcId, known: Toid, stock: &T) -> bool
+    ensures { IsTrue result ↔ (first_new host known (records_in (T.held stock.now)) ≢ []) }
+{
+    let mut lid = 0;
+    'places: while let Some(next) = stock.after(lid) {
+        if is_news(stock.rec(next), host, known) {
+            return true;
+        }
+        lid = next;
+    }
+    false
+}
+
+fn is_news(rec: &Record, host: DcId, known: Toid) -> bool
+    ensures { result ≡ is_new host known rec.now }
+{
+    rec.host == host && known < rec.toid
+}

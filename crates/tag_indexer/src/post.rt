@@ -1,0 +1,43 @@
+ghost use Rattle.std.specs.Prelude.{◌≡◌, ◌<◌, ◌≤◌, bytes_eq};
+ghost use Rattle.tag_indexer.specs.Rows.{home, is_tagged};
+
+use causal_deps::Place;
+use cz_base::{Name, Seq};
+
+/// What an indexer gets of a record: where it stands, whether it is a put, and its tags.
+#[derive(Debug, Drop)]
+pub struct Post {
+    pub place: Place,
+    pub put: bool,
+    pub tags: Seq<Name>,
+}
+
+/// The number of the indexer that a tag is looked up at: the sum of its bytes modulo the number of
+/// indexers.
+pub fn home(tag: &Name, indexers: u32) -> u32
+    requires { 1 ≤ indexers }
+    ensures value { result ≡ home tag.now indexers }
+    ensures member { result < indexers }
+{
+    let mut sum: u32 = 0;
+    for byte in tag.as_bytes() {
+        sum += *byte as u32;
+    }
+    sum % indexers
+}
+
+impl Post {
+    /// Whether the record has the tag.
+    pub(crate) fn has_tag(&self, tag: &Name) -> bool
+        ensures { result ≡ is_tagged tag.now self.now }
+    {
+        self.tags.as_slice().iter().any(|name| same_name(name, tag))
+    }
+}
+
+// Whether both have the same bytes.
+fn same_name(a: &Name, b: &Name) -> bool
+    ensures { result ≡ bytes_eq a.now b.now }
+{
+    a == b
+}

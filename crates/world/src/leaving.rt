@@ -1,0 +1,30 @@
+//! What the stages leave.
+ghost use Rattle.std.specs.Prelude.{IfOk};
+ghost use Rattle.std.specs.List.{AllZip};
+ghost use Rattle.datacentre.specs.Leaving.{IsLeftBy};
+
+use crate::sites::Sites;
+use abstract_log::Left;
+use cz_base::{NoMemory, Seq};
+use datacentre::Datacentre;
+use std::alloc::Global;
+use std::mem::drop;
+
+/// What each datacentre leaves, by letter. The links are given back first.
+pub(crate) fn leave(alloc: Global, sites: Sites) -> Result<Left, NoMemory>
+    ensures { IfOk result (AllZip IsLeftBy sites.datacentres) }
+{
+    let Sites { datacentres, links } = sites;
+    drop(links);
+    leave_each(alloc, datacentres)
+}
+
+fn leave_each(alloc: Global, datacentres: Seq<Datacentre>) -> Result<Left, NoMemory>
+    ensures { IfOk result (AllZip IsLeftBy datacentres) }
+{
+    let mut left = Seq::new(alloc);
+    for datacentre in datacentres.into_vec() {
+        left.push(datacentre.leave()?)?;
+    }
+    Ok(left)
+}
