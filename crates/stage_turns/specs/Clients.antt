@@ -13,7 +13,8 @@ use Rattle.flstore_rounds.specs.Heads.{Pair, head}
 use Rattle.hyksos.specs.declared.next.Next.{Next}
 use Rattle.hyksos.specs.declared.next.Next.TheVariants.{Submitted as SubmittedNext, Replied as RepliedNext, Key as KeyNext, Waiting as WaitingNext, Unacknowledged as UnacknowledgedNext, Below as BelowNext, Behind as BehindNext, Finished as FinishedNext}
 use Rattle.hyksos.specs.declared.next.Turned.{Turned}
-use Rattle.hyksos.specs.Sessions.{SessionState, HasFound, draft_submitted, next_index, writes}
+pub use Rattle.hyksos.specs.Sessions.{is_unanswered, next_command, next_index, writes}
+use Rattle.hyksos.specs.Sessions.{SessionState, HasFound, draft_submitted}
 use Rattle.hyksos.specs.Shelves.{ShelfState, IsShelf}
 use Rattle.hyksos.specs.Turns.{turn_of, turned}
 use Rattle.log_gc.specs.Floors.{Floored, pin_of}
