@@ -21,16 +21,12 @@ use Rattle.stage_world.specs.Schedules.{turn_of}
 use Rattle.datacentre.specs.declared.parts.Parts.{Parts}
 use Rattle.stage_turns.specs.declared.done.TurnDone.{TurnDone}
 use Rattle.stage_turns.specs.Lent.{token_seen}
-use Rattle.datacentre.specs.Seen.{DatacentreState, IsWhole, StandsForALog, indexers_from, seen, state_of}
+use Rattle.datacentre.specs.Seen.{DatacentreState, IsWhole, StandsForALog, seen, state_of}
 use Rattle.stage_turns.specs.Told.{told_by}
 use Rattle.datacentre.specs.Turning.{IsPacketOf, IsTurned, MayTurn, Sends, TakesTurn}
 use Rattle.datacentre.proofs.WholeLinks.{told_all}
 
 -- how many indexers are seen
-as_many_indexers : (n : ℕ) (vs : List Pair) → length (indexers_from n vs) ≡ length vs
-as_many_indexers n [] = refl
-as_many_indexers n (v ∷ vs) = omega (arith, as_many_indexers (n + 1) vs)
-
 -- at most 16 of each kind
 pub record AreFew (p : Parts) : Type 0 where
   pub batchers : length p.batchers ≤ 16
@@ -47,7 +43,7 @@ are_few p log = record {
   filters = log.stands.members.ranges.filters.1;
   queues = omega (arith, log.stands.members.ranges.queues.1, length-map p.queues tokenless);
   maintainers = omega (arith, log.stands.members.ranges.maintainers.1, length-map p.maintainers (λ (y : MaintainerState Record). plain y));
-  indexers = omega (arith, log.stands.members.ranges.indexers.1, as_many_indexers 0 p.indexers);
+  indexers = log.stands.members.ranges.indexers.1;
   senders = log.stands.members.ranges.senders.1;
   holder = omega (arith, log.stands.members.ranges.queues.1, log.stands.members.holder);
 }
@@ -111,9 +107,8 @@ module _ (failed : Bool) (p : Parts) (s : DatacentreState) (view : state_of fail
   members_are b f q m i n x is in_b in_f in_q in_m in_i in_n =
       let queues : q ≡ length (seen p).queues = in_q ∙ sym (length-map p.queues tokenless) in
       let maintainers : m ≡ length (seen p).maintainers = in_m ∙ sym (length-map p.maintainers (λ (y : MaintainerState Record). plain y)) in
-      let indexers : i ≡ length (seen p).indexers = in_i ∙ sym (as_many_indexers 0 p.indexers) in
       let whole : record { batchers = b; filters = f; queues = q; maintainers = m; indexers = i; senders = n; receivers = p.receivers } ≡ sizes_of (seen p) =
-      λ j. record { batchers = in_b j; filters = in_f j; queues = queues j; maintainers = maintainers j; indexers = indexers j; senders = in_n j; receivers = p.receivers } in
+      λ j. record { batchers = in_b j; filters = in_f j; queues = queues j; maintainers = maintainers j; indexers = in_i j; senders = in_n j; receivers = p.receivers } in
       whole ∙ ap sizes_of (some_is x is)
 
   module _ {E : Type 0} (new : Parts) (b : Bool) (x : Datacentre) (is : s.stages ≡ Some x) where

@@ -1,17 +1,19 @@
 -- A datacentre at the beginning.
-use Rattle.std.proofs.Common.{◌≡◌, ℕ, zero, suc, ◌+◌, ◌≤◌, List, [], ◌∷◌, ◌++◌, length, map, set, replicate, refl, ap, ap₂, sym, ◌∙◌, subst, arith, Some, None}
+use Rattle.std.proofs.Common.{◌≡◌, ℕ, zero, suc, ◌+◌, ◌≤◌, Bool, true, false, cond, eqb, find, inl, inr, List, [], ◌∷◌, ◌++◌, length, map, set, replicate, refl, ap, ap₂, sym, ◌∙◌, subst, arith, Option, Some, None}
 use Rattle.std.proofs.Math.Seq.{map-set_same}
-use Rattle.std.proofs.lemmas.List.{get_or-set_same, get_or-set_other, length-set, map_push}
+use Rattle.std.proofs.lemmas.List.{get_or-replicate, get_or-set_same, get_or-set_other, get_or_past, length-replicate, length-set, map_push}
+use Rattle.std.proofs.lemmas.Bool.{cases_lt}
+use Rattle.std.specs.Option.{option_and_then}
 use Rattle.flstore_rounds.specs.Epochs.{EpochList}
-use Rattle.flstore_rounds.specs.Heads.{Pair}
 use Rattle.token_queue.specs.Queues.{QueueState, TokenState, tokenless}
-use Rattle.tag_indexer.specs.Indexers.{IndexerState}
-use Rattle.stage_world.specs.Stages.{no_queue, queue_at}
+use Rattle.log_gc.specs.Floors.{fresh, pin_of}
+use Rattle.abstract_log.specs.declared.command.SessionPlan.{SessionPlan}
+use Rattle.stage_world.specs.Stages.{Session, no_queue, queue_at}
 use Rattle.stage_world.specs.MoreTurns.{new_queue}
-use Rattle.stage_world.specs.Opening.{numbered}
+use Rattle.stage_world.specs.Opening.{new_session, numbered, sessions_from}
 use Rattle.stage_world.proofs.OpeningLemmas.{length-numbered, get_or-numbered}
 use Rattle.stage_turns.specs.Lent.{queues_seen, HaveToken}
-use Rattle.datacentre.specs.Seen.{indexers_from}
+use Rattle.datacentre.specs.Seen.{pin_in}
 
 -- what g leaves as it is
 pub map-numbered : {X : Type 0} (g : X → X) (f : ℕ → X) (n : ℕ) → ((i : ℕ) → g (f i) ≡ f i) → map g (numbered f n) ≡ numbered f n
@@ -72,21 +74,23 @@ is_ring e n t t' qs new some first is same held =
     held ∙ ap₂ (λ xs (u : TokenState). set xs 0 (record (queue_at xs 0) { token = Some (record u { at = (queue_at xs 0).number }) })) is same in
     record { seen = ring_seen e n some t first new all; has = ring_has e n some t first new all }
 
--- indexers that know nothing yet, from number k on
-indexers_push : (k n : ℕ) (v : Pair) → indexers_from k (replicate (suc n) v) ≡ indexers_from k (replicate n v) ++ (record { number = k + n; pair = v; rows = [] }) ∷ []
-indexers_push k zero v = ap (λ i. (record { number = i; pair = v; rows = [] }) ∷ []) (plus-none k)
-  where
-    plus-none : (i : ℕ) → i ≡ i + 0
-    plus-none i = omega arith
-indexers_push k (suc n) v =
-    ap (λ is. (record { number = k; pair = v; rows = [] }) ∷ is)
-    (indexers_push (k + 1) n v ∙ ap (λ i. indexers_from (k + 1) (replicate n v) ++ (record { number = i; pair = v; rows = [] }) ∷ []) (next k n))
-  where
-    next : (i j : ℕ) → i + 1 + j ≡ i + suc j
-    next i j = omega arith
+-- no session that is new has a pin
 
-pub indexers_new : (n : ℕ) (v : Pair) → indexers_from 0 (replicate n v) ≡ numbered (λ i. record { number = i; pair = v; rows = [] }) n
-indexers_new zero v = refl
-indexers_new (suc n) v =
-    let last : 0 + n ≡ n = omega arith in
-    indexers_push 0 n v ∙ ap₂ (λ (is : List IndexerState) (i : ℕ). is ++ (record { number = i; pair = v; rows = [] }) ∷ []) (indexers_new n v) last
+none_first : (b : Bool) (x : Session) (later : Option Session) → x.pin ≡ None → option_and_then (λ (y : Session). y.pin) later ≡ None → option_and_then (λ (y : Session). y.pin) (cond b (Some x) later) ≡ None
+none_first true x later first rest = first
+none_first false x later first rest = rest
+
+none_at : (b : Bool) (x : Session) (xs : List Session) (n : ℕ) → x.pin ≡ None → pin_in xs n ≡ None → pin_in (cond b (x ∷ xs) xs) n ≡ None
+none_at true x xs n first rest = none_first (eqb x.number n) x (find (λ (y : Session). eqb y.number n) xs) first rest
+none_at false x xs n first rest = rest
+
+pub none_pinned : (dcs d first n : ℕ) (plans : List SessionPlan) → pin_in (sessions_from dcs d first plans) n ≡ None
+none_pinned dcs d first n [] = refl
+none_pinned dcs d first n (plan ∷ plans) = none_at (eqb plan.home d) (new_session dcs first plan) (sessions_from dcs d (first + 1) plans) n refl (none_pinned dcs d (first + 1) n plans)
+
+-- and nothing is held against collection
+pub nothing_held : (n : ℕ) → pin_of fresh n ≡ None
+nothing_held n = elim (cases_lt n 64) [
+  | inl within ↦ get_or-replicate 64 n None None within
+  | inr past ↦ get_or_past (replicate 64 None) n None (omega (arith, past, length-replicate {A = Option ℕ} 64 None))
+]

@@ -6,6 +6,8 @@ use Rattle.abstract_log.specs.declared.command.Workload.{Workload}
 use Rattle.abstract_log.specs.declared.script.Sizes.{Sizes}
 use Rattle.flstore_rounds.specs.Epochs.{EpochList}
 use Rattle.flstore_rounds.specs.Heads.{blank}
+use Rattle.log_gc.specs.Floors.{Floored, fresh, pin_of}
+use Rattle.tag_indexer.specs.Indexers.{empty as nothing_posted}
 use Rattle.awareness_table.specs.Awareness.{Awareness}
 use Rattle.maintainer.specs.Maintainers.{MaintainerState, empty, plain}
 use Rattle.causal_deps.specs.declared.record.Record.{Record}
@@ -19,8 +21,8 @@ use Rattle.stage_world.specs.Opening.{first_epochs, numbered, opening_at, sessio
 use Rattle.stage_world.proofs.OpeningLemmas.{All-numbered, length-numbered}
 use Rattle.datacentre.specs.declared.parts.Parts.{Parts}
 use Rattle.stage_turns.specs.Lent.{HaveToken, queues_seen}
-use Rattle.datacentre.specs.Seen.{IsWhole, first_token, indexers_from, seen}
-use Rattle.datacentre.proofs.NewLemmas.{indexers_new, map-numbered}
+use Rattle.datacentre.specs.Seen.{IsWhole, first_token, pin_in, seen}
+use Rattle.datacentre.proofs.NewLemmas.{map-numbered, none_pinned, nothing_held}
 use Rattle.stage_turns.proofs.RingLemmas.{token_is}
 
 -- The parts are new, with these epochs and this map.
@@ -35,11 +37,12 @@ pub record AreNew (sizes : Sizes) (load : Workload) (d : ℕ) (e : EpochList) (s
   pub token : HaveToken p.queues (first_token d load.dcs e sizes.queues)
   pub maintainers : p.maintainers ≡ numbered (λ i. empty i e) sizes.maintainers
   pub vectors : p.vectors ≡ replicate sizes.maintainers (blank e)
-  pub indexers : p.indexers ≡ replicate sizes.indexers (blank e)
+  pub indexers : p.indexers ≡ numbered (λ i. nothing_posted i sizes.indexers e) sizes.indexers
   pub senders : p.senders ≡ numbered (λ k. record { dc = d; number = k }) sizes.senders
   pub receivers : p.receivers ≡ sizes.receivers
   pub table : p.table ≡ record { dc = d; table = zero_table load.dcs }
   pub learnt : p.learnt ≡ 0
+  pub floor : p.floor ≡ fresh
   pub collected : p.collected ≡ []
 
 -- the opening with these epochs and this map
@@ -55,7 +58,7 @@ opening_with sizes load d e shares = record {
   token = first_token d load.dcs e sizes.queues;
   maintainers = numbered (λ i. empty i e) sizes.maintainers;
   vectors = replicate sizes.maintainers (blank e);
-  indexers = numbered (λ i. record { number = i; pair = blank e; rows = [] }) sizes.indexers;
+  indexers = numbered (λ i. nothing_posted i sizes.indexers e) sizes.indexers;
   table = zero_table load.dcs;
   learnt = 0;
   floor = 0;
@@ -70,9 +73,6 @@ module _ (round : ℕ) (sizes : Sizes) (load : Workload) (d : ℕ) (e : EpochLis
 
   maintainers_first : (seen p).maintainers ≡ numbered (λ i. empty i e) sizes.maintainers
   maintainers_first = ap (map (λ (m : MaintainerState Record). plain m)) h.maintainers ∙ map-numbered (λ (m : MaintainerState Record). plain m) (λ i. empty i e) sizes.maintainers (λ i. refl)
-
-  indexers_first : (seen p).indexers ≡ numbered (λ i. record { number = i; pair = blank e; rows = [] }) sizes.indexers
-  indexers_first = ap (indexers_from 0) h.indexers ∙ indexers_new sizes.indexers (blank e)
 
   senders_first : length p.senders ≡ sizes.senders
   senders_first = ap (λ (xs : List SenderState). length xs) h.senders ∙ length-numbered (λ (k : ℕ). record { dc = d; number = k }) sizes.senders
@@ -89,10 +89,10 @@ module _ (round : ℕ) (sizes : Sizes) (load : Workload) (d : ℕ) (e : EpochLis
     token = token_first i;
     maintainers = maintainers_first i;
     vectors = h.vectors i;
-    indexers = indexers_first i;
+    indexers = h.indexers i;
     table = (h.table i).table;
     learnt = h.learnt i;
-    floor = 0;
+    floor = (h.floor i).floor;
     collected = h.collected i;
     senders = senders_first i;
     receivers = h.receivers i;
@@ -106,4 +106,5 @@ module _ (round : ℕ) (sizes : Sizes) (load : Workload) (d : ℕ) (e : EpochLis
     token = subst (HaveToken p.queues) (sym token_first) h.token;
     table = ap (λ (t : Awareness). t.dc) h.table ∙ sym h.here;
     senders = subst (All (λ (s : SenderState). s.dc ≡ p.dc)) (sym h.senders) (All-numbered (λ (s : SenderState). s.dc ≡ p.dc) (λ k. record { dc = d; number = k }) sizes.senders (λ k. sym h.here));
+    pins = λ n. ap (λ (g : Floored). pin_of g n) h.floor ∙ nothing_held n ∙ sym (ap (λ xs. pin_in xs n) h.sessions ∙ none_pinned load.dcs d 0 n load.sessions);
   }

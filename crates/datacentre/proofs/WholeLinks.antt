@@ -4,9 +4,10 @@ use Rattle.std.specs.List.{All, Contains, find, position, position_or_len}
 use Rattle.std.specs.Option.{option_and_then, option_map_or}
 use Rattle.std.proofs.lemmas.Bool.{eqb-true, lt-ltb}
 use Rattle.std.proofs.lemmas.List.{set-get_or}
-use Rattle.std.proofs.lemmas.List.Elements.{All-get_or, Contains-get_or}
+use Rattle.std.proofs.lemmas.List.Elements.{All-contains, All-get_or, Contains-get_or}
 use Rattle.std.proofs.lemmas.List.Sums.{passes_at_first}
 use Rattle.causal_deps.specs.declared.record.Record.{Record}
+use Rattle.causal_deps.specs.declared.record.Draft.{Draft}
 use Rattle.causal_deps.specs.declared.record.Item.{Item}
 use Rattle.causal_deps.specs.declared.record.Item.TheVariants.{External}
 use Rattle.causal_deps.specs.Counts.{greater_rows}
@@ -15,6 +16,8 @@ use Rattle.abstract_log.specs.declared.command.Command.TheVariants.{Append, Put,
 use Rattle.abstract_log.specs.declared.event.Event.TheVariants.{Receive}
 use Rattle.abstract_log.specs.declared.script.Outcome.TheVariants.{Absent, Sent}
 use Rattle.abstract_log.specs.Commands.{is_write}
+use Rattle.abstract_log.specs.Worlds.{log_of}
+use Rattle.abstract_log.specs.declared.answer.Answer.TheVariants.{Read}
 use Rattle.log_laws.proofs.Places.{All-at_place}
 use Rattle.flstore_rounds.specs.Heads.{Pair}
 use Rattle.awareness_table.specs.Awareness.{Awareness}
@@ -23,18 +26,20 @@ use Rattle.record_codec.specs.declared.message.Message.{Message}
 use Rattle.record_codec.specs.Wire.{SpellsMessage}
 use Rattle.sender_receiver.specs.Sending.{SenderState}
 use Rattle.stage_world.specs.Stages.{Datacentre, Session, batcher_at}
-use Rattle.stage_world.specs.Turns.{quiet, where_there}
-use Rattle.stage_world.specs.ClientTurns.{client_of, client_turn}
+use Rattle.stage_world.specs.Turns.{begun, quiet, where_there}
+use Rattle.stage_world.specs.StandsFor.{IsAsFar, IsPinned, is_look}
+use Rattle.stage_world.specs.ClientTurns.{client_of, client_turn, replied}
 use Rattle.stage_world.specs.Idle.{apart_from_epochs}
 use Rattle.stage_world.specs.MoreTurns.{message_of, names_of, receive_turn, received_outcome}
 use Rattle.datacentre.specs.declared.parts.Parts.{Parts}
 use Rattle.stage_turns.specs.declared.done.TurnDone.{TurnDone}
 use Rattle.stage_turns.specs.Changing.{TellsNews, read_changes, write_changes}
-use Rattle.stage_turns.specs.Clients.{MayRead, MayWrite, batchers_written, begin_events, next_command, position_in, read_by, read_outcome, reply_events, session_read, session_written, top_in, write_events, write_outcome, writes}
+use Rattle.stage_turns.specs.Clients.{MayRead, MayWrite, batchers_written, begin_events, draft_submitted, next_command, position_in, position_of, read_by, read_outcome, reply_events, session_read, session_written, shown_in, top_in, write_events, write_outcome, writes}
 use Rattle.stage_turns.specs.Lent.{maintainers_seen}
 use Rattle.datacentre.specs.Seen.{StandsForALog, seen}
 use Rattle.stage_turns.specs.Told.{MayLook, MayTell, told_by}
 use Rattle.datacentre.specs.Turning.{IsBuiltCommand, IsPacketOf, IsTurned, MayTurn, send_told}
+use Rattle.datacentre.proofs.PinLemmas.{HasItsPin, pins_set}
 use Rattle.datacentre.proofs.WholeTurns.{told_of}
 use Rattle.stage_turns.proofs.ChangeLemmas.{read_tells, receive_tells, same_tells, write_tells}
 use Rattle.stage_turns.proofs.AckLemmas.{position_none, position_some}
@@ -115,6 +120,45 @@ module _ (p : Parts) (s i : ℕ) (x : Session) (may : MayTurn p) (found : Some i
       subst (λ n. MayRead n p.first_maintainers x p.maintainers p.vectors) number
       (may_read may.log.world p.dc z may.log.lawful may.log.stands x has p.maintainers (reads built other) refl)
 
+  written_pin : (y : Session) → y ≡ session_written x → HasItsPin x y
+  written_pin y new = at y (draft_submitted x) new
+    where
+      at : (y : Session) (o : Option Draft) → y ≡ option_map_or (λ draft. begun x) o x → HasItsPin x y
+      at y None is = record { number = ap (λ (s : Session). s.number) is; pin = ap (λ (s : Session). s.pin) is }
+      at y (Some draft) is = record { number = ap (λ (s : Session). s.number) is; pin = ap (λ (s : Session). s.pin) is }
+
+  -- a session that reads a position has no pin
+  no_pin : IsSome (read_by x) → x.pin ≡ None
+  no_pin reads = at x.pin refl
+    where
+      far : IsAsFar may.log.world.workload may.log.world.sessions (log_of may.log.world p.dc) p.dc p.floor.floor x
+      far = All-contains (IsAsFar may.log.world.workload may.log.world.sessions (log_of may.log.world p.dc) p.dc p.floor.floor) p.sessions x may.log.stands.sessions has
+
+      looked : (c : Command) → is_look c ≡ true → IsSome (position_in c) → ⊥
+      looked (Append tags body) looks some = absurd (cc)
+      looked (Put key body) looks some = absurd (cc)
+      looked (Get key) looks some = absurd (cc)
+      looked (Tx keys) looks some = absurd (cc)
+      looked (ReadCommand q) looks some = absurd (cc)
+      looked (Last tag n) looks some = absurd (cc)
+
+      at : (o : Option ℕ) → x.pin ≡ o → o ≡ None
+      at None is = refl
+      at (Some s) is =
+          let pinned : IsPinned (log_of may.log.world p.dc) p.floor.floor x s = far.pinned s is in
+          absurd (looked pinned.command pinned.looks (subst (λ o. IsSome (option_and_then position_in o)) pinned.is reads))
+
+  abbrev read_done : Session
+  read_done = replied (Read (shown_in p.maintainers (position_of x) (top_in p.vectors p.first_maintainers s))) (top_in p.vectors p.first_maintainers s) x
+
+  read_pin : (y : Session) → All (λ (z : Session). All IsBuiltCommand z.commands) p.sessions → writes x ≡ false
+      → y ≡ session_read p.maintainers (top_in p.vectors p.first_maintainers s) x → HasItsPin x y
+  read_pin y built other new = at y (ltb (top_in p.vectors p.first_maintainers s) x.standing.floor) new
+    where
+      at : (y : Session) (b : Bool) → y ≡ cond b (begun x) read_done → HasItsPin x y
+      at y true is = record { number = ap (λ (z : Session). z.number) is; pin = ap (λ (z : Session). z.pin) is }
+      at y false is = record { number = ap (λ (z : Session). z.number) is; pin = ap (λ (z : Session). z.pin) is ∙ sym (no_pin (reads built other)) }
+
   pub write_is : (x' : Session) (bs : List (List Item)) (done : TurnDone) → writes x ≡ true → x' ≡ session_written x → bs ≡ batchers_written x p.batchers
       → done.outcome ≡ write_outcome x → done.events ≡ write_events x → done.changed ≡ write_changes x
       → IsTurned p (record p { sessions = set p.sessions i x'; batchers = bs }) done (client_turn p.dc z s)
@@ -123,7 +167,7 @@ module _ (p : Parts) (s i : ℕ) (x : Session) (may : MayTurn p) (found : Some i
       (sym (turn_of_it ∙ write_is_turn p.dc z i x may.log.stands.ordered within (sym is) is_write)) (record {
         stages = ap₂ (λ y b. record z { sessions = set p.sessions i y; batchers = b }) new batchers;
         here = refl;
-        whole = record { token = may.whole.token; table = may.whole.table; senders = may.whole.senders };
+        whole = record { token = may.whole.token; table = may.whole.table; senders = may.whole.senders; pins = λ n. may.whole.pins n ∙ sym (pins_set p.sessions i x x' n (sym is) (written_pin x' new)) };
         outcome = outcome;
         events = events;
         changed = told_of z (record z { sessions = set z.sessions i (session_written x); batchers = batchers_written x z.batchers }) done.changed (write_changes x) changed (write_tells z i x within (sym is));
@@ -143,7 +187,7 @@ module _ (p : Parts) (s i : ℕ) (x : Session) (may : MayTurn p) (found : Some i
             ap₂ (λ ns ws. record z { sessions = set p.sessions i x'; maintainers = maintainers_seen ns; vectors = ws }) maintainers vectors
             ∙ ap (λ y. record z { sessions = set p.sessions i y }) (new ∙ ap (λ n. session_read p.maintainers (top n) x) (sym number));
         here = refl;
-        whole = record { token = may.whole.token; table = may.whole.table; senders = may.whole.senders };
+        whole = record { token = may.whole.token; table = may.whole.table; senders = may.whole.senders; pins = λ n. may.whole.pins n ∙ sym (pins_set p.sessions i x x' n (sym is) (read_pin x' built other new)) };
         outcome = outcome ∙ ap (λ n. read_outcome (top n) x) (sym number);
         events = events ∙ ap (λ n. begin_events x ++ reply_events p.dc p.maintainers (top n) x) (sym number);
         changed = told_of z (record z { sessions = set z.sessions i (session_read p.maintainers (top x.number) x) }) done.changed (read_changes (top x.number) x)
@@ -196,7 +240,7 @@ module _ (p : Parts) (k to n : ℕ) (x : SenderState) (may : MayTurn p) (within 
       subst (λ b. IsTurned p (record p { senders = set p.senders k x' }) done (where_there b (seen p) (send_told p.dc (seen p) k to))) (sym (lt-ltb k (length p.senders) within)) (record {
         stages = ap (λ (xs : List SenderState). record (seen p) { senders = length xs }) left;
         here = refl;
-        whole = record { token = may.whole.token; table = may.whole.table; senders = subst (All (λ (s : SenderState). s.dc ≡ p.dc)) (sym left) may.whole.senders };
+        whole = record { token = may.whole.token; table = may.whole.table; senders = subst (All (λ (s : SenderState). s.dc ≡ p.dc)) (sym left) may.whole.senders; pins = may.whole.pins };
         outcome = outcome ∙ ap (λ (m : Message). Sent (names_of m.records) 0 false) told_here;
         events = events;
         changed = told_of (seen p) (seen p) done.changed false changed (same_tells (apart_from_epochs (seen p)));
@@ -215,7 +259,7 @@ pub receive_is : (p : Parts) (r : ℕ) (m : Message) (bs : List (List Item)) (ta
 receive_is p r m bs table done may rows batchers outcome events changed = record {
   stages = ap₂ (λ b t. record (seen p) { batchers = b; table = t }) batchers (ap (λ (t : Awareness). t.table) rows);
   here = refl;
-  whole = record { token = may.whole.token; table = ap (λ (t : Awareness). t.dc) rows ∙ may.whole.table; senders = may.whole.senders };
+  whole = record { token = may.whole.token; table = ap (λ (t : Awareness). t.dc) rows ∙ may.whole.table; senders = may.whole.senders; pins = may.whole.pins };
   outcome = outcome;
   events = events;
   changed = receive_tells (seen p) r m done.changed (mod-lt r may.log.stands.members.ranges.batchers.0) changed;

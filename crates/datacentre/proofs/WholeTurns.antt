@@ -25,10 +25,11 @@ use Rattle.stage_turns.specs.Flushing.{MayFlush}
 use Rattle.stage_turns.specs.Learning.{MayLearn, learnable_by, row_events, row_learnt}
 use Rattle.stage_turns.specs.Lent.{HaveToken, MayMoveToken, maintainers_seen, queues_seen, token_at_next, token_seen}
 use Rattle.stage_turns.specs.Placing.{MayPlaceFrom, lid_of}
-use Rattle.datacentre.specs.Seen.{IsWhole, seen}
+use Rattle.datacentre.specs.Seen.{IsWhole, pin_in, seen}
 use Rattle.stage_turns.specs.Stamping.{MayStamp, events_stamped, outcome_stamped, queue_stamped, sessions_stamped}
 use Rattle.stage_turns.specs.Telling.{MayGossip, own_vector, vectors_told}
 use Rattle.datacentre.specs.Turning.{IsTurned, MayTurn}
+use Rattle.datacentre.proofs.PinLemmas.{pins_stamped}
 use Rattle.stage_turns.proofs.ChangeLemmas.{flush_tells, gossip_tells, learn_tells, pass_tells, place_tells, same_tells, token_tells}
 use Rattle.stage_turns.proofs.FlushMay.{may_flush, pass_seen}
 use Rattle.stage_turns.proofs.LearningLemmas.{learn_is_turn, may_learn}
@@ -44,7 +45,7 @@ if_five (Ok x) A B P Q R S a b p q t f = f x a b p q t
 if_five (Err e) A B P Q R S a b p q t f = tt
 
 -- the element that is lent
-lent_is : {X : Type 0} (xs : List X) (i : ℕ) (x d : X) → x ≡ get_or xs i x → i < length xs → x ≡ get_or xs i d
+pub lent_is : {X : Type 0} (xs : List X) (i : ℕ) (x d : X) → x ≡ get_or xs i x → i < length xs → x ≡ get_or xs i d
 lent_is xs i x d is within = is ∙ get_or_default xs i x d within
 
 both_true : (a b : Bool) → a ≡ true → b ≡ true → (a && b) ≡ true
@@ -55,7 +56,7 @@ pub told_of : (old new : Datacentre) (c b : Bool) → c ≡ b → TellsChange b 
 told_of old new c b is h = subst (λ t. TellsChange t old new) (sym is) h
 
 -- the members are there
-there : (p new : Parts) (done : TurnDone) (b : Bool) (turned : Turned) → b ≡ true → IsTurned p new done turned → IsTurned p new done (where_there b (seen p) turned)
+pub there : (p new : Parts) (done : TurnDone) (b : Bool) (turned : Turned) → b ≡ true → IsTurned p new done turned → IsTurned p new done (where_there b (seen p) turned)
 there p new done b turned is h = subst (λ x. IsTurned p new done (where_there x (seen p) turned)) (sym is) h
 
 -- a member is not there
@@ -93,7 +94,7 @@ flush_is p b x y fs done may within is empty filters outcome events changed =
     there p (record p { batchers = set p.batchers b y; filters = fs }) done (ltb b (length p.batchers)) (flush_turn z b) (lt-ltb b (length p.batchers) within) (record {
       stages = ap₂ (λ (ys : List Item) gs. record z { batchers = set p.batchers b ys; filters = gs }) empty (filters ∙ ap (fold (taken_by p.map) p.filters) at);
       here = refl;
-      whole = record { token = may.whole.token; table = may.whole.table; senders = may.whole.senders };
+      whole = record { token = may.whole.token; table = may.whole.table; senders = may.whole.senders; pins = may.whole.pins };
       outcome = outcome ∙ ap (λ (xs : List Item). unless_empty xs (Flushed (flush_items p.map p.filters xs))) at;
       events = events;
       changed = told_of z (flush_turn z b).after done.changed (has_some (batcher_at z.batchers b)) (changed ∙ ap (λ (xs : List Item). has_some xs) at) (flush_tells z b);
@@ -142,7 +143,7 @@ pass_is p f q x y fs done may in_f in_q is filters new outcome events changed =
           ∙ ap (λ t. record z { filters = set p.filters f (record (filter_at p.filters f) { out = [] }); queues = set z.queues q (record (queue_at z.queues q) { items = (queue_at z.queues q).items ++ items }); token = t })
           (token_stays p.queues z.token q y may.whole.token in_q kept);
       here = refl;
-      whole = record { token = have_seen p.queues z.token q y may.whole.token in_q kept; table = may.whole.table; senders = may.whole.senders };
+      whole = record { token = have_seen p.queues z.token q y may.whole.token in_q kept; table = may.whole.table; senders = may.whole.senders; pins = may.whole.pins };
       outcome = outcome;
       events = events;
       changed = told_of z (pass_turn z f q).after done.changed (has_some items) changed (pass_tells z f q in_f);
@@ -172,7 +173,7 @@ stamp_is p q x y xs done may within is new sessions outcome events changed =
           ∙ ap (λ ss. record z { sessions = ss; queues = turned.after.queues; token = turned.after.token }) (sessions ∙ ap (λ a. sessions_stamped a p.sessions) at ∙ turn.sessions)
           ∙ sym turn.others;
       here = refl;
-      whole = record { token = subst (HaveToken (set p.queues q y)) (sym token) has; table = may.whole.table; senders = may.whole.senders };
+      whole = record { token = subst (HaveToken (set p.queues q y)) (sym token) has; table = may.whole.table; senders = may.whole.senders; pins = λ n. may.whole.pins n ∙ sym (ap (λ ss. pin_in ss n) sessions ∙ pins_stamped x p.sessions n) };
       outcome = outcome ∙ ap outcome_stamped at ∙ turn.outcome;
       events = events ∙ ap (events_stamped p.dc) at ∙ turn.events;
       changed = told_of z turned.after done.changed (stamp_changes (queue_at p.queues q)) (changed ∙ ap stamp_changes at) turn.changed;
@@ -189,7 +190,7 @@ pub token_moved_is : (p : Parts) (qs : List QueueState) (done : TurnDone) → Ma
 token_moved_is p qs done may queues token has outcome events changed = record {
   stages = ap₂ (λ xs t. record (seen p) { queues = xs; token = t }) queues token;
   here = refl;
-  whole = record { token = subst (HaveToken qs) (sym token) has; table = may.whole.table; senders = may.whole.senders };
+  whole = record { token = subst (HaveToken qs) (sym token) has; table = may.whole.table; senders = may.whole.senders; pins = may.whole.pins };
   outcome = outcome;
   events = events;
   changed = told_of (seen p) (token_turn (seen p)).after done.changed (nat_lt 1 (token_seen p.queues).queues) (changed ∙ ap (nat_lt 1) (sym (token_may p may).ring))
@@ -198,14 +199,14 @@ token_moved_is p qs done may queues token has outcome events changed = record {
 
 -- place
 
-maintainer_lent : (p : Parts) (m : ℕ) (x : MaintainerState Record) → m < length p.maintainers → x ≡ get_or p.maintainers m x → plain x ≡ maintainer_at (maintainers_seen p.maintainers) m
+pub maintainer_lent : (p : Parts) (m : ℕ) (x : MaintainerState Record) → m < length p.maintainers → x ≡ get_or p.maintainers m x → plain x ≡ maintainer_at (maintainers_seen p.maintainers) m
 maintainer_lent p m x within is =
     ap plain (lent_is p.maintainers m x no_maintainer is within) ∙ sym (get_or-map (λ (y : MaintainerState Record). plain y) p.maintainers m no_maintainer no_maintainer within)
 
 queue_lent : (p : Parts) (q : ℕ) (x : QueueState) → q < length p.queues → x ≡ get_or p.queues q x → tokenless x ≡ queue_at (queues_seen p.queues) q
 queue_lent p q x within is = ap tokenless (lent_is p.queues q x no_queue is within) ∙ queue_seen p.queues (queues_seen p.queues) q refl
 
-as_many : (p : Parts) → length (maintainers_seen p.maintainers) ≡ length p.maintainers
+pub as_many : (p : Parts) → length (maintainers_seen p.maintainers) ≡ length p.maintainers
 as_many p = length-map p.maintainers (λ (y : MaintainerState Record). plain y)
 
 pub member_few : (p : Parts) (m : ℕ) → MayTurn p → m < length p.maintainers → m < 16
@@ -233,7 +234,7 @@ place_is p q m queue queue' x x' done may in_q in_m is_q is_m new_q new_m outcom
           (map-set (λ (y : MaintainerState Record). plain y) p.maintainers m x' ∙ turn.maintainers)
           ∙ ap (λ t. record turned.after { token = t }) (token_stays p.queues z.token q queue' may.whole.token in_q kept);
       here = refl;
-      whole = record { token = have_seen p.queues z.token q queue' may.whole.token in_q kept; table = may.whole.table; senders = may.whole.senders };
+      whole = record { token = have_seen p.queues z.token q queue' may.whole.token in_q kept; table = may.whole.table; senders = may.whole.senders; pins = may.whole.pins };
       outcome = turn.outcome;
       events = events;
       changed = told_of z turned.after done.changed (has_some (outbox_for (queue_at z.queues q) m)) (changed ∙ ap (λ (a : QueueState). has_some (outbox_for a m)) (queue_lent p q queue in_q is_q))
@@ -262,7 +263,7 @@ gossip_is p m k x x' vs done may in_m in_k is same told outcome events changed =
     (both_true (ltb m (length p.maintainers)) (ltb k (length p.maintainers)) (lt-ltb m (length p.maintainers) in_m) (lt-ltb k (length p.maintainers) in_k)) (record {
       stages = ap₂ (λ ms ws. record z { maintainers = maintainers_seen ms; vectors = ws }) left vectors;
       here = refl;
-      whole = record { token = may.whole.token; table = may.whole.table; senders = may.whole.senders };
+      whole = record { token = may.whole.token; table = may.whole.table; senders = may.whole.senders; pins = may.whole.pins };
       outcome = outcome ∙ ap (λ ws. Head (head (vector_at ws k))) vectors;
       events = events;
       changed = subst (λ ws. TellsChange done.changed z (record z { vectors = ws })) vectors (gossip_tells z vs done.changed changed);
@@ -270,7 +271,7 @@ gossip_is p m k x x' vs done may in_m in_k is same told outcome events changed =
 
 -- learn
 
-first_there : (p : Parts) → MayTurn p → 0 < length p.vectors
+pub first_there : (p : Parts) → MayTurn p → 0 < length p.vectors
 first_there p may = omega (arith, may.log.stands.served.0, may.log.stands.served.1)
 
 pub vector_there : (p : Parts) → MayTurn p → 0 < length p.vectors
@@ -303,6 +304,7 @@ learn_is p v v' ms table learnt done may is maintainers vector new upto outcome 
         token = may.whole.token;
         table = ap (λ (t : Awareness). t.dc) new ∙ may.whole.table;
         senders = may.whole.senders;
+        pins = may.whole.pins;
       };
       outcome = outcome ∙ ap (λ t. Learnt (row_of t p.dc)) rows;
       events = events ∙ ap (λ a. row_events p.dc (row_of p.table.table p.dc) (row_learnt p.dc p.maintainers a p.table.table p.learnt)) at ∙ turn.events;

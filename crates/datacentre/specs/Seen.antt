@@ -1,12 +1,12 @@
 -- What contracts see of a datacentre.
-use Rattle.std.specs.Prelude.{◌≡◌, ℕ, ◌+◌, Bool, if◌then◌else◌, List, [], ◌∷◌, length, replicate, Option, Some, None, All}
+use Rattle.std.specs.Prelude.{◌≡◌, ℕ, ◌==◌, Bool, if◌then◌else◌, List, [], length, find, replicate, Option, Some, None, All}
+use Rattle.std.specs.Option.{option_and_then}
 use Rattle.abstract_log.specs.declared.world.World.{World}
 use Rattle.flstore_rounds.specs.Epochs.{EpochList}
-use Rattle.flstore_rounds.specs.Heads.{Pair}
+use Rattle.log_gc.specs.Floors.{pin_of}
 use Rattle.token_queue.specs.Queues.{TokenState}
 use Rattle.log_laws.specs.Lawful.{IsLawful}
-use Rattle.tag_indexer.specs.Indexers.{IndexerState}
-use Rattle.stage_world.specs.Stages.{Datacentre}
+use Rattle.stage_world.specs.Stages.{Datacentre, Session}
 use Rattle.stage_world.specs.StandsFor.{StandsAt}
 use Rattle.datacentre.specs.declared.parts.Parts.{Parts}
 use Rattle.stage_turns.specs.Lent.{HaveToken, maintainers_seen, queues_seen, token_seen}
@@ -15,11 +15,6 @@ use Rattle.stage_turns.specs.Lent.{HaveToken, maintainers_seen, queues_seen, tok
 pub record DatacentreState : Type 0 where
   pub dc : ℕ
   pub stages : Option Datacentre
-
--- indexers by number that were posted nothing yet
-abbrev pub indexers_from : ℕ → List Pair → List IndexerState
-indexers_from n [] = []
-indexers_from n (v ∷ vs) = record { number = n; pair = v; rows = [] } ∷ indexers_from (n + 1) vs
 
 -- the parts as the stage world sees them
 abbrev pub seen : Parts → Datacentre
@@ -34,10 +29,10 @@ seen p = record {
   token = token_seen p.queues;
   maintainers = maintainers_seen p.maintainers;
   vectors = p.vectors;
-  indexers = indexers_from 0 p.indexers;
+  indexers = p.indexers;
   table = p.table.table;
   learnt = p.learnt;
-  floor = 0;
+  floor = p.floor.floor;
   collected = p.collected;
   senders = length p.senders;
   receivers = p.receivers;
@@ -46,11 +41,17 @@ seen p = record {
 abbrev pub state_of : Bool → Parts → DatacentreState
 state_of failed p = record { dc = p.dc; stages = if failed then None else Some (seen p) }
 
--- One queue has the token; table and senders are the datacentre's own.
+-- what session n among these has pinned
+abbrev pub pin_in : List Session → ℕ → Option ℕ
+pin_in xs n = option_and_then (λ x. x.pin) (find (λ x. x.number == n) xs)
+
+-- One queue has the token; table and senders are the datacentre's own; what sessions have pinned, and no more, is held against
+-- collection.
 pub record IsWhole (p : Parts) : Type 0 where
   pub token : HaveToken p.queues (token_seen p.queues)
   pub table : p.table.dc ≡ p.dc
   pub senders : All (λ s. s.dc ≡ p.dc) p.senders
+  pub pins : (n : ℕ) → pin_of p.floor n ≡ pin_in p.sessions n
 
 -- Stages of datacentre d that stand for some log: that of a world which a run has left.
 pub record StandsForALog (d : ℕ) (z : Datacentre) : Type 0 where

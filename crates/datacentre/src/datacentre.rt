@@ -16,7 +16,8 @@ ghost use Rattle.stage_world.specs.MoreTurns.{message_of, receive_turn};
 
 use crate::leaving::leave;
 use crate::opening::{
-    new_batchers, new_filters, new_maintainers, new_ring, new_senders, new_sessions, new_vectors,
+    new_batchers, new_filters, new_indexers, new_maintainers, new_ring, new_senders, new_sessions,
+    new_vectors,
 };
 use crate::parts::Parts;
 use crate::{Session, TurnDone, turns};
@@ -25,6 +26,7 @@ use awareness_table::Aware;
 use causal_deps::Counts;
 use cz_base::{DcId, NoMemory, Seq};
 use flstore_rounds::Epochs;
+use log_gc::Gc;
 use lossy_links::Packet;
 use std::alloc::Global;
 use std::marker::Model;
@@ -245,11 +247,12 @@ fn new_parts(
         queues: new_ring(alloc, dc, dcs, sizes.queues, &epochs)?,
         maintainers: new_maintainers(alloc, sizes.maintainers, &epochs)?,
         vectors: new_vectors(alloc, sizes.maintainers, &epochs)?,
-        indexers: new_vectors(alloc, sizes.indexers, &epochs)?,
+        indexers: new_indexers(alloc, sizes.indexers, &epochs)?,
         senders: new_senders(alloc, dc, sizes.senders)?,
         receivers: sizes.receivers,
         table: Aware::new(dc, dcs),
         learnt: 0,
+        floor: Gc::new(),
         collected: Seq::new(alloc),
     })
 }

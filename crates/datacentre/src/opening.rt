@@ -2,6 +2,7 @@
 ghost use Rattle.std.specs.Prelude.{◌≡◌, ◌<◌, ◌≤◌, ◌^◌, [], length, replicate, slice_set, Some, None, IfOk};
 ghost use Rattle.flstore_rounds.specs.Heads.{blank};
 ghost use Rattle.maintainer.specs.Maintainers.{empty};
+ghost use Rattle.tag_indexer.specs.Indexers.{empty as nothing_posted};
 ghost use Rattle.toid_filter.specs.Filters.{new_filter};
 ghost use Rattle.stage_world.specs.MoreTurns.{new_queue};
 ghost use Rattle.stage_world.specs.Stages.{queue_at};
@@ -19,6 +20,7 @@ use head_gossip::Vector;
 use maintainer::Maintainer;
 use sender_receiver::Sender;
 use std::alloc::Global;
+use tag_indexer::Indexer;
 use toid_filter::{Champions, Filter};
 use token_queue::{Queue, Token};
 
@@ -99,6 +101,17 @@ pub(crate) fn new_vectors(alloc: Global, n: u32, epochs: &Epochs) -> Result<Seq<
         vectors.push(Vector::new(alloc, epochs.copy()?))?;
     }
     Ok(vectors)
+}
+
+/// So many indexers, to which nothing was posted.
+pub(crate) fn new_indexers(alloc: Global, n: u32, epochs: &Epochs) -> Result<Seq<Indexer>, NoMemory>
+    ensures { IfOk result (λ indexers. indexers ≡ numbered (λ i. nothing_posted i n epochs.now) n) }
+{
+    let mut indexers = Seq::new(alloc);
+    for number in 0..n {
+        indexers.push(Indexer::new(alloc, number, n, epochs.copy()?))?;
+    }
+    Ok(indexers)
 }
 
 /// So many senders.

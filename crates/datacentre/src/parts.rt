@@ -4,8 +4,10 @@ use batcher::Batcher;
 use causal_deps::{Place, Record};
 use cz_base::{DcId, Lid, Seq};
 use head_gossip::Vector;
+use log_gc::Gc;
 use maintainer::Maintainer;
 use sender_receiver::Sender;
+use tag_indexer::Indexer;
 use toid_filter::{Champions, Filter};
 use token_queue::Queue;
 
@@ -22,13 +24,14 @@ pub(crate) struct Parts {
     pub queues: Seq<Queue>,
     pub maintainers: Seq<Maintainer<Record>>,
     pub vectors: Seq<Vector>,
-    // What the indexers know. None is posted to yet.
-    pub indexers: Seq<Vector>,
+    pub indexers: Seq<Indexer>,
     pub senders: Seq<Sender>,
     pub receivers: u32,
     pub table: Aware,
     /// The position up to which the own row counts.
     pub learnt: Lid,
+    /// The collection floor, and what each session reads at.
+    pub floor: Gc,
     /// Where the records stood that were collected.
     pub collected: Seq<Place>,
 }

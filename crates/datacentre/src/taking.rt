@@ -6,7 +6,7 @@ ghost use Rattle.record_codec.specs.Wire.{SpellsMessage};
 ghost use Rattle.stage_world.specs.Stages.{Session};
 ghost use Rattle.stage_world.specs.ClientTurns.{client_turn};
 ghost use Rattle.stage_world.specs.Turns.{flush_turn, gossip_turn, pass_turn, place_turn, stamp_turn, token_turn, where_there};
-ghost use Rattle.stage_world.specs.MoreTurns.{learn_turn, receive_turn};
+ghost use Rattle.stage_world.specs.MoreTurns.{collect_turn, floor_turn, learn_turn, receive_turn};
 ghost use Rattle.datacentre.specs.Seen.{seen};
 ghost use Rattle.stage_world.specs.Schedules.{turn_of};
 ghost use Rattle.stage_turns.specs.Clients.{writes};
@@ -16,7 +16,7 @@ ghost use Rattle.datacentre.specs.Turning.{IsBuilt, IsBuiltCommand, IsPacketOf, 
 use crate::parts::Parts;
 use crate::{TurnDone, turns};
 use abstract_log::{Outcome, Step};
-use cz_base::{DcId, NoMemory, Seq};
+use cz_base::{DcId, Lid, NoMemory, Seq};
 use lossy_links::Packet;
 
 impl Parts {
@@ -35,6 +35,8 @@ impl Parts {
             Step::Place { q, m, .. } => self.place(*q, *m),
             Step::Gossip { m, k, .. } => self.gossip(*m, *k),
             Step::Learn { .. } => self.learn(),
+            Step::Floor { p, .. } => self.raise_floor(*p),
+            Step::Collect { m, .. } => self.collect(*m),
             _ => unreachable!(),
         }
     }
@@ -132,6 +134,37 @@ impl Parts {
             self.vectors.item_mut(0),
             &mut self.table,
             &mut self.learnt,
+        )
+    }
+
+    /// The collection floor rises to p, as far as the head, what is posted and the pins allow.
+    pub fn raise_floor(&mut self, p: Lid) -> Result<TurnDone, NoMemory>
+        requires { MayTurn self.old }
+        ensures { IfOk result (λ done. IsTurned self.old self.new done (floor_turn (seen self.old) p)) }
+    {
+        turns::floor(
+            p,
+            &self.vectors.as_slice()[0],
+            &self.indexers,
+            &mut self.floor,
+        )
+    }
+
+    /// Maintainer m lets each record go that may be collected.
+    pub fn collect(&mut self, m: u32) -> Result<TurnDone, NoMemory>
+        requires { MayTurn self.old }
+        ensures { IfOk result (λ done. IsTurned self.old self.new done (where_there (nat_lt m (length self.old.maintainers)) (seen self.old) (collect_turn self.old.dc (seen self.old) m))) }
+    {
+        if m as usize >= self.maintainers.len() {
+            return Ok(self.absent());
+        }
+        turns::collect(
+            self.dc,
+            self.maintainers.item_mut(m as usize),
+            &self.indexers,
+            &self.table,
+            &self.floor,
+            &mut self.collected,
         )
     }
 

@@ -1,5 +1,5 @@
 -- Which turns change a datacentre, epoch lists apart.
-use Rattle.std.proofs.Common.{◌≡◌, ◌≢◌, ◌↔◌, ℕ, zero, suc, ◌+◌, ◌-◌, ◌%◌, ◌<◌, ◌≤◌, ◌&&◌, ◌||◌, max, Bool, true, false, cond, not, eqb, nat_lt, List, [], ◌∷◌, ◌++◌, length, map, set, get_or, fold, refl, ap, ap₂, sym, ◌∙◌, subst, inl, inr, arith, Option, Some, None, is_some}
+use Rattle.std.proofs.Common.{◌≡◌, ◌≢◌, ◌↔◌, ℕ, zero, suc, ◌+◌, ◌-◌, ◌%◌, ◌<◌, ◌≤◌, ◌&&◌, ◌||◌, max, Bool, true, false, cond, not, nat_lt, List, [], ◌∷◌, ◌++◌, length, map, set, get_or, fold, refl, ap, ap₂, sym, ◌∙◌, subst, inl, inr, arith, Option, Some, None, is_some}
 use Rattle.std.specs.Bool.{IsTrue}
 use Rattle.std.specs.Option.{option_map_or}
 use Rattle.std.proofs.Math.ListN.{get_or-map}
@@ -13,9 +13,8 @@ use Rattle.causal_deps.specs.declared.record.Item.{Item}
 use Rattle.causal_deps.specs.declared.record.Item.TheVariants.{External}
 use Rattle.causal_deps.specs.Counts.{IsSquare, IsWithin, entry_of, greater, greater_rows, raised_row, row_of}
 use Rattle.causal_deps.proofs.CountsLemmas.{entry_of-greater_rows, get_or-greater, get_or-greater_rows, length-greater, length-greater_rows}
-use Rattle.abstract_log.specs.declared.answer.Answer.{Answer}
 use Rattle.flstore_rounds.specs.Epochs.{EpochList}
-use Rattle.flstore_rounds.specs.Heads.{Pair, head}
+use Rattle.flstore_rounds.specs.Heads.{Pair}
 use Rattle.maintainer.specs.Maintainers.{MaintainerState, learned, moved_in}
 use Rattle.record_codec.specs.declared.message.Message.{Message}
 use Rattle.token_queue.specs.declared.entry.Entry.{Entry}

@@ -18,3 +18,5 @@ pub mod TellingLemmas
 pub mod StockLemmas
 pub mod NewsLemmas
 pub mod ToldLemmas
+pub mod CollectingLemmas
+pub mod CollectTurns

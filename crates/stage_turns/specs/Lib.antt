@@ -9,3 +9,4 @@ pub mod Telling
 pub mod Learning
 pub mod Told
 pub mod Rising
+pub mod Collecting

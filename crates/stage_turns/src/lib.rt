@@ -6,6 +6,7 @@
 #![tactic(auto)]
 
 mod client;
+mod collecting;
 mod done;
 mod flushing;
 mod learning;
@@ -21,6 +22,7 @@ mod stocking;
 mod telling;
 
 pub use client::{client_read, client_write};
+pub use collecting::{collect, floor};
 pub use done::TurnDone;
 pub use flushing::{flush, pass};
 pub use learning::learn;

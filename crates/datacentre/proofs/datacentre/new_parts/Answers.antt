@@ -14,12 +14,13 @@ returns-clause-stages c =
       queues = c.in_ok-new_ring.field-0;
       maintainers = c.in_ok-new_maintainers.field-0;
       vectors = c.in_ok-new_vectors.field-0;
-      indexers = c.in_ok-new_vectors-2.field-0;
+      indexers = c.in_ok-new_indexers.field-0;
       senders = c.in_ok-new_senders.field-0;
       receivers = c.args.sizes.now.receivers;
       table = c.new.result;
       learnt = 0;
-      collected = c.new-collected.result;
+      floor = c.new-2.result;
+      collected = c.new-3.result;
     }) (record {
       here = refl;
       first = refl;
@@ -31,12 +32,13 @@ returns-clause-stages c =
       token = c.in_ok-new_ring.ensures.token;
       maintainers = c.in_ok-new_maintainers.ensures;
       vectors = c.in_ok-new_vectors.ensures;
-      indexers = c.in_ok-new_vectors-2.ensures;
+      indexers = c.in_ok-new_indexers.ensures;
       senders = c.in_ok-new_senders.ensures;
       receivers = refl;
       table = c.new.ensures;
       learnt = refl;
-      collected = c.new-collected.ensures;
+      floor = c.new-2.ensures;
+      collected = c.new-3.ensures;
     }) c.in_ok-epochs.ensures c.in_ok-map.ensures
 
 pub returns-clause-whole : goal.returns-clause-whole
@@ -51,12 +53,13 @@ returns-clause-whole c =
       queues = c.in_ok-new_ring.field-0;
       maintainers = c.in_ok-new_maintainers.field-0;
       vectors = c.in_ok-new_vectors.field-0;
-      indexers = c.in_ok-new_vectors-2.field-0;
+      indexers = c.in_ok-new_indexers.field-0;
       senders = c.in_ok-new_senders.field-0;
       receivers = c.args.sizes.now.receivers;
       table = c.new.result;
       learnt = 0;
-      collected = c.new-collected.result;
+      floor = c.new-2.result;
+      collected = c.new-3.result;
     }) (record {
       here = refl;
       first = refl;
@@ -68,10 +71,11 @@ returns-clause-whole c =
       token = c.in_ok-new_ring.ensures.token;
       maintainers = c.in_ok-new_maintainers.ensures;
       vectors = c.in_ok-new_vectors.ensures;
-      indexers = c.in_ok-new_vectors-2.ensures;
+      indexers = c.in_ok-new_indexers.ensures;
       senders = c.in_ok-new_senders.ensures;
       receivers = refl;
       table = c.new.ensures;
       learnt = refl;
-      collected = c.new-collected.ensures;
+      floor = c.new-2.ensures;
+      collected = c.new-3.ensures;
     })

@@ -1,7 +1,4 @@
-use Rattle.std.proofs.Common.{not, ap, sym, subst, ◌∙◌, List, length}
-use Rattle.causal_deps.specs.Counts.{IsWithin}
-use Rattle.stage_turns.specs.Changing.{has_some}
-use Rattle.record_codec.specs.declared.message.Message.{Message}
+use Rattle.std.proofs.Common.{not, length}
 use Rattle.stage_turns.proofs.ChangeLemmas.{news_of, or_first, or_second}
 use Rattle.stage_turns.proofs.receiving.deliver.Goals as goal
 use Rattle.stage_turns.proofs.receiving.deliver.Goals.{then-brings_records, else-brings_records}
