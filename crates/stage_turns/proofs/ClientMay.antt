@@ -5,7 +5,6 @@ use Rattle.std.specs.Option.{option_map_or, unwrap_or}
 use Rattle.std.proofs.Math.Nat.{mod-lt}
 use Rattle.std.proofs.lemmas.Bool.{cases_lt, cond_both, eq-eqb, ne_eqb}
 use Rattle.std.proofs.lemmas.Bool.Decides.{nat_tests}
-use Rattle.std.proofs.lemmas.List.{length-map}
 use Rattle.std.proofs.lemmas.List.Elements.{All-contains, All-get_or, Contains-append_cases, Contains-append_left, Contains-append_right}
 use Rattle.std.proofs.lemmas.List.Sums.{sum_by-cons}
 use Rattle.std.proofs.lemmas.Option.{same_Some, slice_get-get_or}
@@ -21,7 +20,7 @@ use Rattle.log_laws.specs.Lawful.{IsLawful}
 use Rattle.flstore_rounds.specs.Heads.{Pair, IsTruePair, blank, head}
 use Rattle.flstore_rounds.proofs.HeadLemmas.{head_filled}
 use Rattle.hyksos.specs.Sessions.{SessionState, HasFound, keys_of, next_command, next_keys, writes}
-use Rattle.hyksos.specs.Shelves.{IsShelf, covered_for}
+use Rattle.hyksos.specs.Shelves.{covered_for}
 use Rattle.log_gc.specs.Floors.{Floored, pin_of}
 use Rattle.maintainer.specs.declared.slot.Slot.{Slot}
 use Rattle.maintainer.specs.Maintainers.{IsEntryOf, MaintainerState, plain, times, times_in, value_at}
@@ -36,8 +35,8 @@ use Rattle.stage_world.specs.ClientTurns.{looked_up}
 use Rattle.stage_world.proofs.FilledLemmas.{All-flat_map, filled_within, no_record, one_at_most, times_in-flat_map}
 use Rattle.stage_world.proofs.LogLemmas.{record_at_below}
 use Rattle.stage_world.proofs.LookUps.{looked_up_is}
-use Rattle.stage_turns.specs.Clients.{MayRead, MayWrite, shelf_for}
-use Rattle.stage_turns.specs.Shelves.{IsIndexerOf, ShowsLog, gone_in, shelf_of}
+use Rattle.stage_turns.specs.Clients.{MayRead, MayWrite}
+use Rattle.stage_turns.specs.Shelves.{ShowsLog, gone_in, shelf_of}
 use Rattle.stage_turns.proofs.ShelfLemmas.{covered_is}
 
 -- room does not matter
@@ -247,19 +246,15 @@ module _ (w : World) (d : ℕ) (z : Datacentre) (lawful : IsLawful w) (h : Stand
     small_number = omega (arith, far.home.there, lawful.limits.sessions)
 
     -- another session may take its turn at lent maintainers, whatever room they have
-    pub may_read : (lent : List (MaintainerState Record)) (g : Floored) → writes x ≡ false → map plain lent ≡ ms → g.floor ≡ z.floor → length g.pins ≡ 64 → pin_of g x.number ≡ x.pin → ((n s : ℕ) → pin_of g n ≡ Some s → g.floor ≤ s)
+    pub may_read : (lent : List (MaintainerState Record)) (g : Floored) → writes x ≡ false → map plain lent ≡ ms → g.floor ≡ z.floor → pin_of g x.number ≡ x.pin → ((n s : ℕ) → pin_of g n ≡ Some s → g.floor ≤ s)
         → MayRead x.number z.first x lent z.vectors z.indexers g
-    may_read lent g reads same floor size pin pins = record {
+    may_read lent g reads same floor pin pins = record {
       number = refl;
       small = small_number;
       reads = reads;
       some = h.served.0;
       vector = served;
-      sized = record {
-        some = omega (arith, h.members.ranges.indexers.0, length-map z.indexers (λ (i : IndexerState). head i.pair));
-        few = omega (arith, h.members.ranges.indexers.1, length-map z.indexers (λ (i : IndexerState). head i.pair));
-        pins = size;
-      };
+      indexers = h.members.ranges.indexers;
       pin = pin;
       log = log;
       shows = shows_at lent g same floor pins;
