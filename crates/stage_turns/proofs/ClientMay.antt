@@ -84,7 +84,7 @@ listed p [] has = absurd (omega (arith, has.1))
 listed p (q ∷ qs) has = at has.0 has.1 has.2 (λ later. listed p qs later)
   where
     at : (k : ℕ) → k < length (q ∷ qs) → get_or (q ∷ qs) k p ≡ p → (Contains qs p → 1 ≤ times p qs) → 1 ≤ times p (q ∷ qs)
-    at zero within is later = omega (arith, sum_by-cons (λ (x : ℕ). cond (eqb x p) 1 0) q qs, ap (λ b. cond b 1 0) (eq-eqb q p is))
+    at zero within is later = omega (arith, sum_by-cons (λ (x : ℕ). cond (eqb x p) 1 0) q qs, ap (λ b. cond {A = ℕ} b 1 0) (eq-eqb q p is))
     at (suc k) within is later = omega (arith, sum_by-cons (λ (x : ℕ). cond (eqb x p) 1 0) q qs, later (k, omega (arith, within), is))
 
 gone_somewhere : (p : ℕ) (ms : List (MaintainerState Record)) → 1 ≤ gone_times p ms → Contains (gone_in ms) p
