@@ -1,4 +1,4 @@
-use crate::Session;
+use hyksos::Session;
 use awareness_table::Aware;
 use batcher::Batcher;
 use causal_deps::{Place, Record};
