@@ -9,7 +9,7 @@ ghost use Rattle.stage_world.specs.Turns.{flush_turn, gossip_turn, pass_turn, pl
 ghost use Rattle.stage_world.specs.MoreTurns.{collect_turn, floor_turn, learn_turn, receive_turn};
 ghost use Rattle.datacentre.specs.Seen.{seen};
 ghost use Rattle.stage_world.specs.Schedules.{turn_of};
-ghost use Rattle.stage_turns.specs.Clients.{writes};
+ghost use Rattle.hyksos.specs.Sessions.{writes};
 ghost use Rattle.stage_turns.specs.Told.{IsToldBy};
 ghost use Rattle.datacentre.specs.Turning.{IsBuilt, IsBuiltCommand, IsPacketOf, IsTurned, MayTurn, send_told};
 
@@ -187,6 +187,8 @@ impl Parts {
                 self.sessions.item_mut(at),
                 &mut self.maintainers,
                 &mut self.vectors,
+                &mut self.indexers,
+                &mut self.floor,
             )
         }
     }
