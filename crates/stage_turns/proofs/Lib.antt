@@ -11,6 +11,7 @@ pub mod FlushMay
 pub mod ShelfLemmas
 pub mod ClientMay
 pub mod ClientIs
+pub mod SessionChanges
 pub mod PlacingLemmas
 pub mod LearningLemmas
 pub mod TellingLemmas
