@@ -46,6 +46,7 @@ use Rattle.stage_world.specs.StandsFor.{IsAsFar, IsPinned, StandsAt, gone_times,
 use Rattle.stage_world.proofs.FilledLemmas.{filled_within}
 use Rattle.stage_world.proofs.LookUps.{looked_up_is, tagged_home}
 use Rattle.stage_world.proofs.ReplyTurn.{no_draft, shown_is}
+use Rattle.stage_turns.proofs.ClientIs.{begun_then, set_session}
 use Rattle.stage_turns.specs.Clients.{begin_events, events_of, outcome_of, reply_events}
 use Rattle.stage_turns.specs.Shelves.{gone_in, shelf_of}
 
@@ -118,39 +119,6 @@ covers_as z m name is some numbers =
   where
     plain_at : (k : ℕ) → k ≡ 0 + k
     plain_at k = omega arith
-
--- One session of several, changed by its number.
-
-none_changed : (s : ℕ) (f : Session → Session) (xs : List Session) → All (λ n. s < n) (numbers_of xs) → at_session s f xs ≡ xs
-none_changed s f [] h = refl
-none_changed s f (x ∷ xs) h =
-    let above : s < x.number = All-head (λ n. s < n) x.number (numbers_of xs) h in
-    ap₂ (λ (y : Session) ys. y ∷ ys) (ap (λ b. cond b (f x) x) (ne_eqb x.number s (λ same. absurd (omega (arith, above, same)))))
-    (none_changed s f xs (All-tail (λ n. s < n) x.number (numbers_of xs) h))
-
-pub set_session : (f : Session → Session) (xs : List Session) (i : ℕ) (x : Session) → AllPairs (λ a b. a < b) (numbers_of xs) → i < length xs → get_or xs i x ≡ x
-    → at_session x.number f xs ≡ set xs i (f x)
-set_session f [] i x rise within is = absurd (omega (arith, within))
-set_session f (y ∷ ys) zero x rise within is =
-    let same : y.number ≡ x.number = ap (λ (s : Session). s.number) is in
-    let above : All (λ n. x.number < n) (numbers_of ys) = λ k d inside. omega (arith, rise 0 (suc k) d (omega arith) (omega (arith, inside)), same) in
-    ap₂ (λ (s : Session) ss. s ∷ ss) (ap (λ b. cond b (f y) y) (eq-eqb y.number x.number same) ∙ ap f is) (none_changed x.number f ys above)
-set_session f (y ∷ ys) (suc i) x rise within is =
-    let inside : i < length ys = omega (arith, within) in
-    let number : get_or (numbers_of ys) i x.number ≡ x.number = get_or-map (λ (s : Session). s.number) ys i x x.number inside ∙ ap (λ (s : Session). s.number) is in
-    let size : length (numbers_of ys) ≡ length ys = length-map ys (λ (s : Session). s.number) in
-    let below : y.number < x.number = omega (arith, rise 0 (suc i) x.number (omega arith) (omega (arith, inside, size)), number) in
-    ap₂ (λ (s : Session) ss. s ∷ ss) (ap (λ b. cond b (f y) y) (ne_eqb y.number x.number (λ same. absurd (omega (arith, below, same)))))
-    (set_session f ys i x (λ j k d less there. rise (suc j) (suc k) d (omega (arith, less)) (omega (arith, there))) inside is)
-
--- a change after a begin
-begun_then : (n : ℕ) (g : Session → Session) (xs : List Session) → at_session n g (at_session n begun xs) ≡ at_session n (λ y. g (begun y)) xs
-begun_then n g [] = refl
-begun_then n g (y ∷ ys) = ap₂ (λ (s : Session) ss. s ∷ ss) (one (eqb y.number n) refl) (begun_then n g ys)
-  where
-    one : (b : Bool) → eqb y.number n ≡ b → cond (eqb (cond b (begun y) y).number n) (g (cond b (begun y) y)) (cond b (begun y) y) ≡ cond b (g (begun y)) y
-    one true is = ap (λ b. cond b (g (begun y)) (begun y)) is
-    one false is = ap (λ b. cond b (g y) y) is
 
 -- what a look-up at s rests on
 pub record MayLook (log : List Record) (low : ℕ) (x : Session) (c : Command) (s : ℕ) : Type 0 where
