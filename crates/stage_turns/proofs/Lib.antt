@@ -20,3 +20,4 @@ pub mod NewsLemmas
 pub mod ToldLemmas
 pub mod CollectingLemmas
 pub mod CollectTurns
+pub mod SessionIs
