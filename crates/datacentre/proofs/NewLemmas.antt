@@ -1,5 +1,5 @@
 -- A datacentre at the beginning.
-use Rattle.std.proofs.Common.{◌≡◌, ℕ, zero, suc, ◌+◌, ◌≤◌, Bool, true, false, cond, eqb, find, inl, inr, List, [], ◌∷◌, ◌++◌, length, map, set, replicate, refl, ap, ap₂, sym, ◌∙◌, subst, arith, Some, None}
+use Rattle.std.proofs.Common.{◌≡◌, ℕ, zero, suc, ◌+◌, ◌≤◌, Bool, true, false, cond, eqb, find, inl, inr, List, [], ◌∷◌, ◌++◌, length, map, set, replicate, refl, ap, ap₂, sym, ◌∙◌, subst, arith, Option, Some, None}
 use Rattle.std.proofs.Math.Seq.{map-set_same}
 use Rattle.std.proofs.lemmas.List.{get_or-replicate, get_or-set_same, get_or-set_other, get_or_past, length-replicate, length-set, map_push}
 use Rattle.std.proofs.lemmas.Bool.{cases_lt}
@@ -75,21 +75,22 @@ is_ring e n t t' qs new some first is same held =
     record { seen = ring_seen e n some t first new all; has = ring_has e n some t first new all }
 
 -- no session that is new has a pin
+
+none_first : (b : Bool) (x : Session) (later : Option Session) → x.pin ≡ None → option_and_then (λ (y : Session). y.pin) later ≡ None → option_and_then (λ (y : Session). y.pin) (cond b (Some x) later) ≡ None
+none_first true x later first rest = first
+none_first false x later first rest = rest
+
+none_at : (b : Bool) (x : Session) (xs : List Session) (n : ℕ) → x.pin ≡ None → pin_in xs n ≡ None → pin_in (cond b (x ∷ xs) xs) n ≡ None
+none_at true x xs n first rest = none_first (eqb x.number n) x (find (λ (y : Session). eqb y.number n) xs) first rest
+none_at false x xs n first rest = rest
+
 pub none_pinned : (dcs d first n : ℕ) (plans : List SessionPlan) → pin_in (sessions_from dcs d first plans) n ≡ None
 none_pinned dcs d first n [] = refl
-none_pinned dcs d first n (plan ∷ plans) = at_home (eqb plan.home d)
-  where
-    at : (b : Bool) → option_and_then (λ (x : Session). x.pin) (cond b (Some (new_session dcs first plan)) (find (λ (x : Session). eqb x.number n) (sessions_from dcs d (first + 1) plans))) ≡ None
-    at true = refl
-    at false = none_pinned dcs d (first + 1) n plans
-
-    at_home : (b : Bool) → pin_in (cond b (new_session dcs first plan ∷ sessions_from dcs d (first + 1) plans) (sessions_from dcs d (first + 1) plans)) n ≡ None
-    at_home true = at (eqb first n)
-    at_home false = none_pinned dcs d (first + 1) n plans
+none_pinned dcs d first n (plan ∷ plans) = none_at (eqb plan.home d) (new_session dcs first plan) (sessions_from dcs d (first + 1) plans) n refl (none_pinned dcs d (first + 1) n plans)
 
 -- and nothing is held against collection
 pub nothing_held : (n : ℕ) → pin_of fresh n ≡ None
 nothing_held n = elim (cases_lt n 64) [
-  | inl within ↦ get_or-replicate 64 None n None within
-  | inr past ↦ get_or_past (replicate 64 None) n None (omega (arith, past, length-replicate 64 None))
+  | inl within ↦ get_or-replicate 64 n None None within
+  | inr past ↦ get_or_past (replicate 64 None) n None (omega (arith, past, length-replicate {A = Option ℕ} 64 None))
 ]

@@ -1,11 +1,16 @@
 -- What sessions have pinned, where they change.
-use Rattle.std.proofs.Common.{◌≡◌, ℕ, zero, suc, ◌+◌, Bool, true, false, cond, eqb, find, List, [], ◌∷◌, map, set, get_or, refl, ap, sym, ◌∙◌, Option, Some, None, IsSome}
+use Rattle.std.proofs.Common.{◌≡◌, ℕ, zero, suc, ◌+◌, ◌<◌, Bool, true, false, cond, eqb, find, List, [], ◌∷◌, length, map, set, get_or, refl, ap, sym, ◌∙◌, arith, Option, Some, None, IsSome}
+use Rattle.std.specs.List.{AllPairs}
 use Rattle.std.specs.Option.{option_and_then, option_map_or}
+use Rattle.std.proofs.lemmas.Bool.{eq-eqb, ne_eqb}
+use Rattle.std.proofs.lemmas.List.{get_or-map, length-map}
 use Rattle.causal_deps.specs.declared.record.Record.{Record}
 use Rattle.causal_deps.specs.declared.record.Item.{Item}
 use Rattle.causal_deps.specs.declared.record.Item.TheVariants.{Local, External}
 use Rattle.token_queue.specs.Queues.{QueueState, TokenState}
+use Rattle.log_gc.specs.Floors.{Floored, pin_of}
 use Rattle.stage_world.specs.Stages.{Session}
+use Rattle.stage_world.specs.StandsFor.{numbers_of}
 use Rattle.stage_world.specs.Turns.{acknowledged, all_acknowledged, at_session, sessions_after}
 use Rattle.stage_turns.specs.Stamping.{drained_of, sessions_stamped}
 use Rattle.datacentre.specs.Seen.{pin_in}
@@ -64,3 +69,20 @@ pins_stamped q xs n = at q.token
     at : (o : Option TokenState) → pin_in (option_map_or (λ t. all_acknowledged t.last (drained_of q t).stamped (drained_of q t).records xs) o xs) n ≡ pin_in xs n
     at None = refl
     at (Some t) = pins_all t.last (drained_of q t).stamped (drained_of q t).records xs n
+
+-- Each session's pin is held under its number, and nothing else is.
+
+found_at_number : (xs : List Session) (i : ℕ) (x : Session) → AllPairs (λ a b. a < b) (numbers_of xs) → i < length xs → get_or xs i x ≡ x → pin_in xs x.number ≡ x.pin
+found_at_number [] i x rise within is = absurd (omega (arith, within))
+found_at_number (y ∷ ys) zero x rise within is =
+    ap (λ b. pin_at b y (found_in ys x.number)) (eq-eqb y.number x.number (ap (λ (s : Session). s.number) is)) ∙ ap (λ (s : Session). s.pin) is
+found_at_number (y ∷ ys) (suc i) x rise within is =
+    let inside : i < length ys = omega (arith, within) in
+    let number : get_or (numbers_of ys) i x.number ≡ x.number = get_or-map (λ (s : Session). s.number) ys i x x.number inside ∙ ap (λ (s : Session). s.number) is in
+    let size : length (numbers_of ys) ≡ length ys = length-map ys (λ (s : Session). s.number) in
+    let below : y.number < x.number = omega (arith, rise 0 (suc i) x.number (omega arith) (omega (arith, inside, size)), number) in
+    ap (λ b. pin_at b y (found_in ys x.number)) (ne_eqb y.number x.number (λ same. absurd (omega (arith, below, same))))
+    ∙ found_at_number ys i x (λ j k d less there. rise (suc j) (suc k) d (omega (arith, less)) (omega (arith, there))) inside is
+
+pub pins_held : (xs : List Session) (g : Floored) → AllPairs (λ a b. a < b) (numbers_of xs) → ((n : ℕ) → pin_of g n ≡ pin_in xs n) → (i : ℕ) (x : Session) → i < length xs → get_or xs i x ≡ x → pin_of g x.number ≡ x.pin
+pins_held xs g rise pins i x within is = pins x.number ∙ found_at_number xs i x rise within is

@@ -183,6 +183,13 @@ impl Datacentre {
         )
     }
 
+    /// Its sessions, in order.
+    pub fn sessions(&self) -> &[Session]
+        ensures { ForSome self.now.stages (λ z. result.now ≡ z.sessions) }
+    {
+        self.parts.sessions.as_slice()
+    }
+
     /// What it leaves: what stands at each position of its log, and its table. The records are moved, and all else is given back.
     pub fn leave(self) -> Result<LeftAt, NoMemory>
         ensures { IfOk result (IsLeftBy self) }

@@ -1,8 +1,9 @@
 -- A session: its commands, and how far it is with them.
-use Rattle.std.specs.Prelude.{◌≡◌, ℕ, ◌+◌, ◌^◌, ◌<◌, max, Bool, true, false, nat_lt, List, [], ◌∷◌, ◌++◌, length, map, take, Option, Some, None, All, slice_get}
-use Rattle.std.specs.Option.{option_map_or}
+use Rattle.std.specs.Prelude.{◌≡◌, ℕ, ◌+◌, ◌^◌, ◌<◌, max, Bool, true, false, if◌then◌else◌, nat_lt, List, [], ◌∷◌, ◌++◌, length, map, take, Option, Some, None, All, slice_get}
+use Rattle.std.specs.Option.{option_and_then, option_map_or}
 use Rattle.causal_deps.specs.Counts.{raised}
 use Rattle.causal_deps.specs.declared.record.Record.{Record}
+use Rattle.causal_deps.specs.declared.record.Draft.{Draft}
 use Rattle.causal_deps.specs.declared.record.Place.{Place}
 use Rattle.abstract_log.specs.declared.answer.Answer.{Answer}
 use Rattle.abstract_log.specs.declared.answer.Found.{Found}
@@ -10,7 +11,7 @@ use Rattle.abstract_log.specs.declared.command.Command.{Command}
 use Rattle.abstract_log.specs.declared.command.Command.TheVariants.{Append, Put, Get, Tx, Read, Last}
 use Rattle.abstract_log.specs.declared.world.Standing.{Standing}
 use Rattle.abstract_log.specs.Answers.{found_at, past_with, places_in}
-use Rattle.abstract_log.specs.Commands.{is_write}
+use Rattle.abstract_log.specs.Commands.{draft_of, is_write}
 use Rattle.abstract_log.specs.Fits.{FitsCommand}
 
 -- its commands, how far it is, the position at which it reads, and what it found there so far
@@ -41,6 +42,10 @@ next_index x = x.standing.answered + 1
 -- that command is there, and is a write
 abbrev pub writes : SessionState → Bool
 writes x = option_map_or is_write (next_command x) false
+
+-- the draft of the command, if it is a write and is not open yet
+abbrev pub draft_submitted : SessionState → Option Draft
+draft_submitted x = if x.standing.begun then None else option_and_then (draft_of x.number (next_index x) x.standing.past) (next_command x)
 
 -- a command is not answered
 abbrev pub is_unanswered : SessionState → Bool

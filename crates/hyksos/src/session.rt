@@ -1,4 +1,4 @@
-ghost use Rattle.std.specs.Prelude.{◌≡◌, ◌<◌, ◌≤◌, ◌^◌, ℕ, true, length, replicate, All};
+ghost use Rattle.std.specs.Prelude.{◌≡◌, ◌<◌, ◌≤◌, ◌+◌, ◌^◌, ℕ, true, is_some, length, replicate, All};
 ghost use Rattle.abstract_log.specs.Fits.{FitsCommand};
 ghost use Rattle.abstract_log.specs.Worlds.{first_standing};
 ghost use Rattle.hyksos.specs.Sessions.{AreCommands, acked, is_unanswered, session_at, writes};
@@ -87,6 +87,13 @@ impl Session {
         (self.standing.answered as usize) < self.commands.len()
     }
 
+    /// Whether a look-up of its reads at a pinned position.
+    pub fn is_pinned(&self) -> bool
+        ensures { result ≡ is_some self.now.pin }
+    {
+        self.pin.is_some()
+    }
+
     /// Whether its open or next command is there and is a write.
     pub fn writes(&self) -> bool
         ensures { result ≡ writes self.now }
@@ -99,8 +106,7 @@ impl Session {
 
     /// The write that is open got its place: it is answered, and the session knows of its record.
     pub fn ack(&mut self, place: &Place)
-        requires begun { self.old.standing.begun ≡ true }
-        requires write { writes self.old ≡ true }
+        requires { self.old.standing.answered + 1 < 2 ^ 32 }
         ensures { self.new ≡ acked place.now self.old }
     {
         self.standing.answered += 1;

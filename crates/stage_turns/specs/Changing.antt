@@ -1,28 +1,18 @@
 -- Whether a turn changed one of the stages that it was lent.
-use Rattle.std.specs.Prelude.{ℕ, ◌||◌, ◌&&◌, Bool, true, false, not, nat_lt, List, [], ◌∷◌, map, is_some}
+use Rattle.std.specs.Prelude.{ℕ, ◌||◌, Bool, true, false, List, [], ◌∷◌, map}
 use Rattle.std.specs.Option.{option_map_or}
 use Rattle.flstore_rounds.specs.Heads.{Pair}
 use Rattle.causal_deps.specs.declared.record.Record.{Record}
 use Rattle.record_codec.specs.declared.message.Message.{Message}
 use Rattle.causal_deps.specs.Counts.{greater_rows}
 use Rattle.token_queue.specs.Queues.{QueueState}
-use Rattle.stage_world.specs.Stages.{Session}
 use Rattle.stage_world.specs.Idle.{TellsApart}
-use Rattle.stage_turns.specs.Clients.{draft_submitted}
 use Rattle.stage_turns.specs.Stamping.{drained_of}
 
 -- something is in the list
 abbrev pub has_some : {X : Type 0} → List X → Bool
 has_some [] = false
 has_some (x ∷ xs) = true
-
--- the session submits a draft
-abbrev pub write_changes : Session → Bool
-write_changes x = is_some (draft_submitted x)
-
--- it begins a read, or its read is answered: it does not go on waiting
-abbrev pub read_changes : ℕ → Session → Bool
-read_changes top x = not (x.standing.begun && nat_lt top x.standing.floor)
 
 -- the queue has the token, and an item of its own or one that may be stamped
 abbrev pub stamp_changes : QueueState → Bool

@@ -1,6 +1,7 @@
 pub mod Lent
 pub mod Stamping
 pub mod Flushing
+pub mod Shelves
 pub mod Clients
 pub mod Changing
 pub mod Placing

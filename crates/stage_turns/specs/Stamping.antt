@@ -13,6 +13,7 @@ use Rattle.token_queue.specs.declared.entry.Stamp.{Stamp}
 use Rattle.token_queue.specs.Items.{FitsItem}
 use Rattle.token_queue.specs.Drain.{Drained, drain_by}
 use Rattle.token_queue.specs.Queues.{QueueState, TokenState, stamped_queue, entries_from}
+pub use Rattle.hyksos.specs.Sessions.{acked}
 use Rattle.stage_world.specs.Stages.{Session, is_draft_of}
 use Rattle.stage_world.specs.Turns.{unless_empty, at_session, all_acknowledged, stamp_events, place_of_entry}
 use Rattle.stage_world.specs.StandsFor.{numbers_of}
@@ -58,17 +59,6 @@ pub record MayStamp (d : ℕ) (q : QueueState) (t : TokenState) (xs : List Sessi
   pub ordered : AllPairs (λ a b. a < b) (numbers_of xs)
   pub pasts : All (λ x. d < length x.standing.past) xs
   pub few : All (λ x. x.standing.answered + sum_by (is_draft_of x.number) (items_of q t) < 2 ^ 32) xs
-
--- a session whose write got this place
-abbrev pub acked : Place → Session → Session
-acked place x = record x {
-  standing = record {
-    answered = x.standing.answered + 1;
-    begun = false;
-    past = raised x.standing.past place.host place.toid;
-    floor = max x.standing.floor place.lid;
-  };
-}
 
 -- the sessions, once the stamp of a record of datacentre d went to its own
 abbrev pub acked_by : ℕ → List Session → Stamp → List Session

@@ -1,52 +1,47 @@
 //! A session goes on with its command.
-ghost use Rattle.std.specs.Prelude.{◌≡◌, ◌≤◌, ◌++◌, ◌+◌, ◌^◌, ◌<◌, ℕ, Some, IfOk, OnOk};
-ghost use Rattle.abstract_log.specs.Answers.{shown_record};
-ghost use Rattle.stage_world.specs.Turns.{begun};
-ghost use Rattle.stage_turns.specs.Changing.{read_changes, write_changes};
-ghost use Rattle.stage_turns.specs.Clients.{IsKeptByOwner, MayRead, MayWrite, batchers_written, begin_events, read_outcome, reply_events, session_read, session_written, shown_in, top_in, write_events, write_outcome};
+ghost use Rattle.std.specs.Prelude.{◌≡◌, ◌%◌, ◌++◌, List, IfOk, OnOk, not};
+ghost use Rattle.causal_deps.specs.declared.record.Record.{Record as RecordValue};
+ghost use Rattle.hyksos.specs.Sessions.{HasFound, begun};
+ghost use Rattle.stage_world.specs.Stages.{vector_at};
+ghost use Rattle.stage_turns.specs.Shelves.{ShowsLog};
+ghost use Rattle.stage_turns.specs.Clients.{IsSessionTurn, MayRead, MayWrite, batchers_written, begin_events, events_of, goes_on, outcome_of, reply_events, session_changes, shelf_for, write_events, write_outcome};
 
-use crate::{Session, TurnDone};
-use abstract_log::{Answer, Event, Outcome, ReadAnswer};
+use crate::TurnDone;
+use crate::stage_shelf::StageShelf;
+use abstract_log::{Event, Outcome};
 use batcher::Batcher;
-use causal_deps::{Item, Place, Record, Shown};
-use cz_base::{DcId, Lid, NoMemory, Seq};
-use flstore_rounds::Epochs;
+use causal_deps::{Item, Record};
+use cz_base::{DcId, NoMemory, Seq};
 use head_gossip::Vector;
+use hyksos::{Next, Session};
+use log_gc::Gc;
 use maintainer::Maintainer;
 use std::alloc::Global;
+use std::mem;
+use tag_indexer::Indexer;
 
-/// The turn of session s, whose open or next command is a write, or which has none left. The draft of a
-/// next command goes last into the batcher that serves the session, and the command is then open.
+/// The turn of session s, whose open or next command is a write. The draft of a next command goes last into
+/// the batcher that serves the session, and the command is then open.
 pub fn client_write(
     s: u32,
     session: &mut Session,
     batchers: &mut Seq<Batcher>,
 ) -> Result<TurnDone, NoMemory>
     requires { MayWrite s session.old batchers.old }
-    ensures session { OnOk result (session.new ≡ session_written session.old) }
+    ensures session { OnOk result (session.new ≡ begun session.old) }
     ensures batchers { OnOk result (batchers.new ≡ batchers_written session.old batchers.old) }
     ensures outcome { IfOk result (λ done. done.outcome ≡ write_outcome session.old) }
     ensures events { IfOk result (λ done. done.events ≡ write_events session.old) }
-    ensures changed { IfOk result (λ done. done.changed ≡ write_changes session.old) }
+    ensures changed { IfOk result (λ done. done.changed ≡ not session.old.standing.begun) }
 {
-    let mut events = Seq::new(batchers.alloc());
-    if session.next().is_none() {
-        return Ok(TurnDone {
-            outcome: Outcome::Finished,
-            events,
-            changed: false,
-        });
-    }
     let k = session.index();
-    if session.is_begun() {
+    let mut events = Seq::new(batchers.alloc());
+    let Some(draft) = session.submit()? else {
         return Ok(TurnDone {
             outcome: Outcome::Unacknowledged { k },
             events,
             changed: false,
         });
-    }
-    let Some(draft) = session.draft()? else {
-        unreachable!();
     };
     let at = s as usize % batchers.len();
     batchers.item_mut(at).add(Item::Local(draft))?;
@@ -54,7 +49,6 @@ pub fn client_write(
         session: s,
         index: k,
     })?;
-    session.begin();
     Ok(TurnDone {
         outcome: Outcome::Submitted { k },
         events,
@@ -62,10 +56,9 @@ pub fn client_write(
     })
 }
 
-/// The turn of session s, whose open or next command is a read, at a datacentre that began with so many
-/// maintainers. A next command is open from then on. Unless the head of the session's vector is below its
-/// floor, the read is answered at that head by the owner of its position.
-// The indexers and the collection floor are lent too once the other look-ups are built.
+/// The turn of session s, whose open or next command is none or no write, at a datacentre that began with so many
+/// maintainers. It reads through the vector that serves it, the maintainers and the indexers, and what it reads at is
+/// pinned against collection.
 pub fn client_read(
     dc: DcId,
     s: u32,
@@ -73,104 +66,144 @@ pub fn client_read(
     session: &mut Session,
     maintainers: &mut Seq<Maintainer<Record>>,
     vectors: &mut Seq<Vector>,
+    indexers: &mut Seq<Indexer>,
+    floor: &mut Gc,
 ) -> Result<TurnDone, NoMemory>
-    requires { MayRead s first_maintainers session.old maintainers.old vectors.old }
-    ensures session { OnOk result (session.new ≡ session_read maintainers.old (top_in vectors.old first_maintainers s) session.old) }
+    requires { MayRead s first_maintainers session.old maintainers.old vectors.old indexers.old floor.old }
     ensures maintainers { maintainers.new ≡ maintainers.old }
     ensures vectors { vectors.new ≡ vectors.old }
-    ensures outcome { IfOk result (λ done. done.outcome ≡ read_outcome (top_in vectors.old first_maintainers s) session.old) }
-    ensures events { IfOk result (λ done. done.events ≡ begin_events session.old ++ reply_events dc maintainers.old (top_in vectors.old first_maintainers s) session.old) }
-    ensures changed { IfOk result (λ done. done.changed ≡ read_changes (top_in vectors.old first_maintainers s) session.old) }
+    ensures indexers { indexers.new ≡ indexers.old }
+
+    // Each log that the stages show gives the same turn.
+    ensures turn { (log : List RecordValue) → ShowsLog (vector_at vectors.old (s % first_maintainers)) maintainers.old indexers.old floor.old log → HasFound log session.old
+        → IfOk result (λ done. IsSessionTurn dc log (shelf_for s first_maintainers maintainers.old vectors.old indexers.old floor.old) session.old done session.new floor.new) }
 {
-    let vector = &vectors.as_slice()[(s % first_maintainers) as usize];
-    let top = vector.head();
-    let note = vector.tell()?;
-    let k = session.index();
-    let goes_on = session.is_begun();
-    let mut events = begin(s, session, maintainers.alloc())?;
-    if top < session.floor() {
-        let floor = session.floor();
-        return Ok(TurnDone {
-            outcome: Outcome::Waiting {
-                k,
-                floor,
-                head: top,
-            },
-            events,
-            changed: !goes_on,
-        });
-    }
-    let shown = shown_at(
-        &note.epochs,
-        maintainers.as_slice(),
-        session.position(),
-        top,
-    )?;
-    session.reply(top, &shown);
-    events.push(Event::Reply {
+    let was_pinned = session.is_pinned();
+    let mut shelf = StageShelf {
+        vector: &vectors.as_slice()[(s % first_maintainers) as usize],
+        maintainers,
+        indexers,
+        floor: mem::replace(floor, Gc::new()),
+    };
+    let tried = session.try_next(&mut shelf);
+    let StageShelf { floor: after, .. } = shelf;
+    *floor = after;
+    let turned = tried?;
+    told(
+        maintainers.alloc(),
         dc,
-        session: s,
-        index: k,
-        at: top,
-        answer: Answer::Read(shown),
-    })?;
+        s,
+        was_pinned,
+        turned.opened,
+        turned.next,
+    )
+}
+
+// What is told of a turn.
+fn told(
+    alloc: Global,
+    dc: DcId,
+    s: u32,
+    was_pinned: bool,
+    opened: Option<u32>,
+    next: Next,
+) -> Result<TurnDone, NoMemory>
+    ensures outcome { IfOk result (λ done. done.outcome ≡ outcome_of next) }
+    ensures events { IfOk result (λ done. done.events ≡ events_of dc s (record { opened = opened; next = next })) }
+    ensures changed { IfOk result (λ done. done.changed ≡ session_changes was_pinned (record { opened = opened; next = next })) }
+{
+    let events = begin_events(alloc, s, opened)?;
+    let changed = opened.is_some() || goes_on(&next, was_pinned);
+    let outcome = outcome_of(&next);
     Ok(TurnDone {
-        outcome: Outcome::Replied { k },
-        events,
-        changed: true,
+        outcome,
+        events: with_reply(events, dc, s, next)?,
+        changed,
     })
 }
 
-// The next command is open, where none was, and that is told.
-fn begin(s: u32, session: &mut Session, alloc: Global) -> Result<Seq<Event>, NoMemory>
-    requires number { session.old.number ≡ s }
-    requires few { session.old.standing.answered + 1 < 2 ^ 32 }
-    ensures session { OnOk result (session.new ≡ begun session.old) }
-    ensures events { IfOk result (λ events. events ≡ begin_events session.old) }
+// The event where a command was answered, after these.
+fn with_reply(events: Seq<Event>, dc: DcId, s: u32, next: Next) -> Result<Seq<Event>, NoMemory>
+    ensures { IfOk result (λ all. all ≡ events ++ reply_events dc s next) }
 {
-    let mut events = Seq::new(alloc);
-    if !session.is_begun() {
-        events.push(Event::Submit {
+    let mut events = events;
+    match next {
+        Next::Submitted(_draft) => {}
+        Next::Replied { index, at, answer } => events.push(Event::Reply {
+            dc,
             session: s,
-            index: session.index(),
-        })?;
+            index,
+            at,
+            answer,
+        })?,
+        Next::Key { .. } => {}
+        Next::Waiting { .. } => {}
+        Next::Unacknowledged { .. } => {}
+        Next::Below { .. } => {}
+        Next::Behind { .. } => {}
+        Next::Finished => {}
     }
-    session.begin();
     Ok(events)
 }
 
-// What a read of position p shows, seen at `top`: the owner of the position tells.
-fn shown_at(
-    epochs: &Epochs,
-    maintainers: &[Maintainer<Record>],
-    p: Lid,
-    top: Lid,
-) -> Result<ReadAnswer, NoMemory>
-    requires first { 1 ≤ p }
-    requires kept { p ≤ top → (hosts : ℕ) × IsKeptByOwner hosts epochs.now maintainers.now p }
-    ensures { IfOk result (λ shown. shown ≡ shown_in maintainers.now p top) }
+// The event where a command was begun.
+fn begin_events(alloc: Global, s: u32, opened: Option<u32>) -> Result<Seq<Event>, NoMemory>
+    ensures { IfOk result (λ events. events ≡ begin_events s opened) }
 {
-    if top < p {
-        return Ok(ReadAnswer::Beyond);
+    let mut events = Seq::new(alloc);
+    if let Some(index) = opened {
+        events.push(Event::Submit { session: s, index })?;
     }
-    match maintainers[epochs.owner(p) as usize].read(p) {
-        Shown::Filled(rec) => shown_record(p, rec),
-        Shown::Gone => Ok(ReadAnswer::Gone),
-        Shown::Empty => Ok(ReadAnswer::Gone),
+    Ok(events)
+}
+
+// Whether the command went on, begun or not.
+fn goes_on(next: &Next, was_pinned: bool) -> bool
+    ensures { result ≡ goes_on was_pinned next.now }
+{
+    match next {
+        Next::Submitted(_) => true,
+        Next::Replied { .. } => true,
+        Next::Key { .. } => true,
+        Next::Waiting { .. } => false,
+        Next::Unacknowledged { .. } => false,
+        Next::Below { .. } => false,
+        Next::Behind { .. } => !was_pinned,
+        Next::Finished => false,
     }
 }
 
-fn shown_record(p: Lid, rec: &Record) -> Result<ReadAnswer, NoMemory>
-    ensures { IfOk result (λ shown. shown ≡ shown_record p (Some rec.now)) }
+fn outcome_of(next: &Next) -> Outcome
+    ensures { result ≡ outcome_of next.now }
 {
-    Ok(ReadAnswer::Shown {
-        place: Place {
-            lid: p,
-            host: rec.host,
-            toid: rec.toid,
+    match next {
+        Next::Submitted(draft) => Outcome::Submitted { k: draft.index },
+        Next::Replied { index, .. } => Outcome::Replied { k: *index },
+        Next::Key {
+            index,
+            done,
+            of,
+            at,
+        } => Outcome::Key {
+            k: *index,
+            done: *done,
+            of: *of,
+            at: *at,
         },
-        kind: rec.kind,
-        body: rec.body.copy()?,
-        tags: rec.tags.copy()?,
-    })
+        Next::Waiting { index, floor, head } => Outcome::Waiting {
+            k: *index,
+            floor: *floor,
+            head: *head,
+        },
+        Next::Unacknowledged { index } => Outcome::Unacknowledged { k: *index },
+        Next::Below { index, floor } => Outcome::Below {
+            k: *index,
+            floor: *floor,
+        },
+        Next::Behind { index, covered } => Outcome::Behind {
+            k: *index,
+            covered: *covered,
+        },
+        Next::Finished => Outcome::Finished,
+    }
 }

@@ -17,21 +17,10 @@ use Rattle.abstract_log.specs.Commands.{draft_of}
 use Rattle.abstract_log.specs.Answers.{places_in, past_with, shown_record, found_record, last_of}
 use Rattle.flstore_rounds.specs.Heads.{head}
 use Rattle.tag_indexer.specs.Rows.{newest_row, tagged_places}
+pub use Rattle.hyksos.specs.Sessions.{next_index, replied}
 use Rattle.stage_world.specs.Stages.{Datacentre, Session, vector_at}
 use Rattle.stage_world.specs.Turns.{Turned, quiet, at_session, begun, submitted}
 use Rattle.stage_world.specs.MoreTurns.{record_kept, home_of}
-
--- the number of the session's next or open command
-abbrev pub next_index : Session → ℕ
-next_index x = x.standing.answered + 1
-
--- a session whose command is answered at position s
-abbrev pub replied : Answer → ℕ → Session → Session
-replied answer s x = record x {
-  standing = record { answered = next_index x; begun = false; past = past_with x.standing.past (places_in answer); floor = s };
-  pin = None;
-  found = [];
-}
 
 -- what a read of position p shows, seen at s
 abbrev pub shown_at : Datacentre → ℕ → ℕ → ReadAnswer

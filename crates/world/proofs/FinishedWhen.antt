@@ -15,6 +15,7 @@ use Rattle.abstract_log.specs.declared.world.World.{World}
 use Rattle.abstract_log.specs.Worlds.{log_of, pending_of, standing_of, plan_of}
 use Rattle.abstract_log.specs.Runs.{IsFinished}
 use Rattle.log_laws.specs.Lawful.{IsLawful}
+use Rattle.stage_world.specs.Settling.{is_unanswered}
 use Rattle.stage_world.specs.Stages.{Session, Stages}
 use Rattle.stage_world.specs.StandsFor.{IsAsFar, numbers_of, standing_in}
 use Rattle.stage_world.specs.Whole.{StandsFor, datacentre_at}
@@ -48,9 +49,6 @@ module _ (w : World) (lawful : IsLawful w)
   finished_when = record { answered = answered; none_waits = none_waits_at; complete = has_each }
 
 -- Stages that stand for a lawful world: it is finished where no session there has a command left, and the tokens have the same counts.
-
-abbrev pub is_unanswered : Session → Bool
-is_unanswered x = nat_lt x.standing.answered (length x.commands)
 
 not_below : (m n : ℕ) → nat_lt m n ≡ false → n ≤ m
 not_below m n is = elim (cases_lt m n) [

@@ -6,5 +6,10 @@ pub mod SiteLemmas
 pub mod LeftLemmas
 pub mod TakingLemmas
 pub mod MovingLemmas
+pub mod IdleLemmas
+pub mod RoundLemmas
+pub mod KnownLemmas
+pub mod RoundIs
 pub mod SettlingLemmas
+pub mod SettledLemmas
 pub mod ReplayLemmas

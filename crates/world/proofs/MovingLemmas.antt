@@ -24,7 +24,7 @@ use Rattle.stage_world.specs.Stages.{Datacentre, Stages, Session}
 use Rattle.stage_world.specs.StandsFor.{IsAsFar, StandsAt}
 use Rattle.stage_world.specs.Turns.{Turned, quiet, where_there}
 use Rattle.stage_world.specs.MoreTurns.{message_of, names_of, receive_turn}
-use Rattle.stage_world.specs.LinkTurns.{deliver_turn, has_lost, link_length, moved_at, put_in_link, send_turn, still, with_link}
+use Rattle.stage_world.specs.LinkTurns.{Moved, deliver_turn, has_lost, link_length, moved_at, put_in_link, send_turn, still, with_link}
 use Rattle.stage_world.specs.Schedules.{IsStep, place_of_step, step_of, turn_of}
 use Rattle.stage_world.specs.Whole.{IsTold, datacentre_at, link_at}
 use Rattle.stage_turns.specs.declared.done.TurnDone.{TurnDone}
@@ -56,7 +56,7 @@ packets_are dcs z old d e h = ap (λ ls. packets_at ls d e) h.links ∙ packets_
 
 -- A step of a stage of one datacentre
 
-own_is : (load : Workload) (z : Stages) (step : Step) → uses_link step ≡ false
+pub own_is : (load : Workload) (z : Stages) (step : Step) → uses_link step ≡ false
     → step_of load z step ≡ moved_at z (place_of_step load step) (turn_of (place_of_step load step) (datacentre_at z (place_of_step load step)) step)
 own_is load z (Client s) own = refl
 own_is load z (Flush d b) own = refl
@@ -160,7 +160,7 @@ module _ (load : Workload) (step : Step) (z : Stages) (old : Sites) (may : MaySt
         built = built_here may.world d (datacentre_at z d) step (subst AreBuilt (sym may.same) may.commands) (stands_there d within) may.built own;
       }
 
-turned_at : (dcs : ℕ) (z : Stages) (old new : Sites) (d : ℕ) (turned : Turned) (done : TurnDone) → Shows dcs z old → new.links ≡ old.links → HasTurned d turned old.datacentres new.datacentres done
+turned_at : (dcs : ℕ) (z : Stages) (old new : Sites) (d : ℕ) (turned : Turned) (done : TurnDone) → Shows dcs z old → new.links ≡ old.links → HasTurned d (datacentre_at z d) turned old.datacentres new.datacentres done
     → HasMoved dcs (moved_at z d turned) new done
 turned_at dcs z old new d turned done h links is = record {
   shown = shows_turn dcs z old h d turned.after new is.datacentres links;
@@ -169,7 +169,7 @@ turned_at dcs z old new d turned done h links is = record {
 }
 
 pub own_moves : (load : Workload) (z : Stages) (old new : Sites) (step : Step) (d : ℕ) (done : TurnDone) → Shows load.dcs z old → uses_link step ≡ false → d ≡ place_of_step load step → new.links ≡ old.links
-    → HasTurned d (turn_of d (datacentre_at z d) step) old.datacentres new.datacentres done → HasMoved load.dcs (step_of load z step) new done
+    → HasTurned d (datacentre_at z d) (turn_of d (datacentre_at z d) step) old.datacentres new.datacentres done → HasMoved load.dcs (step_of load z step) new done
 own_moves load z old new step d done h own at links is =
     subst (λ m. HasMoved load.dcs m new done) (sym (own_is load z step own))
     (subst (λ p. HasMoved load.dcs (moved_at z p (turn_of p (datacentre_at z p) step)) new done) at (turned_at load.dcs z old new d (turn_of d (datacentre_at z d) step) done h links is))
@@ -201,7 +201,7 @@ put_moves dcs z old new d e m h within datacentres links =
     shows_link dcs z old h d e (put_last (link_at z d e) m) new within datacentres
     (links ∙ ap (λ ps. with_packets old.links d e (put_last ps (message_bytes dcs m))) (packets_are dcs z old d e h) ∙ ap (with_packets old.links d e) (put_last-map (message_bytes dcs) (link_at z d e) m))
 
-length_are : (dcs : ℕ) (z : Stages) (new : Sites) (d e : ℕ) → Shows dcs z new → length (packets_at new.links d e) ≡ link_length z d e
+pub length_are : (dcs : ℕ) (z : Stages) (new : Sites) (d e : ℕ) → Shows dcs z new → length (packets_at new.links d e) ≡ link_length z d e
 length_are dcs z new d e h = ap length (packets_are dcs z new d e h) ∙ length-map (link_at z d e) (message_bytes dcs)
 
 lost_are : (dcs : ℕ) (z : Stages) (old : Sites) (d e : ℕ) → Shows dcs z old → is_some (lost_by_put (packets_at old.links d e)) ≡ has_lost z d e
@@ -260,7 +260,7 @@ taken_out dcs z old new d e k h links =
     links ∙ ap (λ ps. with_packets old.links d e (without ps k)) (packets_are dcs z old d e h) ∙ ap (with_packets old.links d e) (without-map (message_bytes dcs) (link_at z d e) k)
 
 -- the packet at a place
-packet_is : (dcs : ℕ) (z : Stages) (old : Sites) (d e k : ℕ) → Shows dcs z old → message_at (packets_at old.links d e) k ≡ option_map (message_bytes dcs) (message_at (link_at z d e) k)
+pub packet_is : (dcs : ℕ) (z : Stages) (old : Sites) (d e k : ℕ) → Shows dcs z old → message_at (packets_at old.links d e) k ≡ option_map (message_bytes dcs) (message_at (link_at z d e) k)
 packet_is dcs z old d e k h = ap (λ ps. message_at ps k) (packets_are dcs z old d e h) ∙ message_at-map (message_bytes dcs) (link_at z d e) k
 
 pub lose_moves : (load : Workload) (z : Stages) (old new : Sites) (d e k : ℕ) (done : TurnDone) → Shows load.dcs z old → d < load.dcs → new.datacentres ≡ old.datacentres
@@ -377,7 +377,7 @@ may_receive load d e k r z old packet may is =
 -- a message comes to a datacentre
 pub deliver_moves : (load : Workload) (d e k r : ℕ) (z : Stages) (old new : Sites) (packet : List ℕ) (done : TurnDone) → MayStep load (Deliver d e k r) z old → ltb r (datacentre_at z e).receivers ≡ true
     → Some packet ≡ message_at (packets_at old.links d e) k → new.links ≡ with_packets old.links d e (without (packets_at old.links d e) k)
-    → ((m : Message) → SpellsMessage (length (datacentre_at z e).table) packet m → HasTurned e (receive_turn e (datacentre_at z e) r m) old.datacentres new.datacentres done)
+    → ((m : Message) → SpellsMessage (length (datacentre_at z e).table) packet m → HasTurned e (datacentre_at z e) (receive_turn e (datacentre_at z e) r m) old.datacentres new.datacentres done)
     → HasMoved load.dcs (step_of load z (Deliver d e k r)) new done
 deliver_moves load d e k r z old new packet done may there is links turned =
     let of : IsMessageOf load.dcs z d e k packet = message_there load.dcs z old d e k packet may.shown is in
@@ -396,9 +396,10 @@ pub copied_ok : {E : Type 0} (load : Workload) (z : Stages) (old new : Sites) (d
 copied_ok load z old new d e k (Ok done) h within datacentres links outcome events = copy_moves load z old new d e k done h within datacentres links outcome events
 copied_ok load z old new d e k (Err x) h within datacentres links outcome events = tt
 
-pub received_moves : {E : Type 0} (load : Workload) (d e k r : ℕ) (z : Stages) (old new : Sites) (packet : List ℕ) (result : Result TurnDone E) → MayStep load (Deliver d e k r) z old → ltb r (datacentre_at z e).receivers ≡ true
-    → Some packet ≡ message_at (packets_at old.links d e) k → new.links ≡ with_packets old.links d e (without (packets_at old.links d e) k)
-    → ((m : Message) → SpellsMessage (length (datacentre_at z e).table) packet m → IfOk result (HasTurned e (receive_turn e (datacentre_at z e) r m) old.datacentres new.datacentres))
-    → IfOk result (HasMoved load.dcs (step_of load z (Deliver d e k r)) new)
-received_moves load d e k r z old new packet (Ok done) may there is links turned = deliver_moves load d e k r z old new packet done may there is links turned
-received_moves load d e k r z old new packet (Err x) may there is links turned = tt
+-- the same, where it is told that something changed
+pub changed_moves : (dcs : ℕ) (moved : Moved) (sites : Sites) (done told : TurnDone) → HasMoved dcs moved sites done → told ≡ record done { changed = true } → HasMoved dcs moved sites told
+changed_moves dcs moved sites done told is same = record {
+  shown = is.shown;
+  outcome = ap (λ (x : TurnDone). x.outcome) same ∙ is.outcome;
+  events = ap (λ (x : TurnDone). x.events) same ∙ is.events;
+}

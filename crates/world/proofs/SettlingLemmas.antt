@@ -1,13 +1,96 @@
--- Going on with turns.
-use Rattle.std.proofs.Common.{[], ◌++◌, sym, subst}
-use Rattle.std.proofs.lemmas.List.{append_assoc, append-nil}
-use Rattle.world.specs.Taking.{HasGoneOn, HasTaken, StagesState}
+-- The turns of settling may be taken.
+use Rattle.std.proofs.Common.{◌≡◌, ℕ, ◌+◌, ◌<◌, ◌%◌, eqb, List, [], ◌∷◌, ◌++◌, length, sym, subst}
+use Rattle.std.specs.List.{All}
+use Rattle.std.proofs.lemmas.Bool.{cond_both, eqb-false}
+use Rattle.std.proofs.lemmas.List.Elements.{All-nil, All-cons, All-append, All-map, All-weaker}
+use Rattle.abstract_log.specs.declared.command.Workload.{Workload}
+use Rattle.abstract_log.specs.declared.script.Script.{Script}
+use Rattle.abstract_log.specs.declared.script.Step.{Step}
+use Rattle.abstract_log.specs.declared.script.Step.TheVariants.{Client, Flush, Gossip, Learn, Pass, Place, Stamp, Token}
+use Rattle.abstract_log.specs.declared.world.World.{World}
+use Rattle.log_laws.proofs.LimitedRuns.{workload_is}
+use Rattle.abstract_log.specs.Worlds.{log_of}
+use Rattle.abstract_log.specs.Runs.{world_of}
+use Rattle.stage_world.specs.Opening.{numbered}
+use Rattle.stage_world.specs.Schedules.{AreTwo, IsStep}
+use Rattle.stage_world.specs.Settling.{Errand, below, clients, errands, flushes, gossips, local_round, passes, places, ring, rounds}
+use Rattle.stage_world.specs.Stages.{Datacentre, Session, Stages}
+use Rattle.stage_world.specs.StandsFor.{IsAsFar, StandsAt}
+use Rattle.stage_world.specs.Whole.{StandsFor, datacentre_at}
+use Rattle.world.specs.Settled.{MayBePlayed, errands_between, errands_from}
+use Rattle.world.specs.Showing.{IsBuiltStep}
+use Rattle.world.specs.Taking.{HasTaken, StagesState, Taken, stages_after}
+use Rattle.world.proofs.RoundLemmas.{all_below, all_flat, all_numbered}
+use Rattle.world.proofs.TakingLemmas.{run_of}
 
-pub stays : (s : StagesState) → HasGoneOn s s
-stays s script ts h = ([], subst (λ us. HasTaken script us s) (sym (append-nil ts)) h)
+-- a step that a script may have, of a kind that is built
+abbrev Good : Workload → Step → Type 0
+Good load step = IsStep load step × IsBuiltStep step
 
-pub goes_further : (a b c : StagesState) → HasGoneOn a b → HasGoneOn b c → HasGoneOn a c
-goes_further a b c first second script ts h =
-    let one = first script ts h in
-    let two = second script (ts ++ one.0) one.1 in
-    (one.0 ++ two.0, subst (λ us. HasTaken script us c) (append_assoc ts one.0 two.0) two.1)
+both : (load : Workload) (steps : List Step) → All (Good load) steps → MayBePlayed load steps
+both load steps all = (All-weaker (Good load) (IsStep load) (λ s g. g.0) steps all, All-weaker (Good load) IsBuiltStep (λ s g. g.1) steps all)
+
+module _ (load : Workload) (d : ℕ) (z : Datacentre) (within : d < load.dcs) where
+  clients_good : All (λ (x : Session). x.number < length load.sessions) z.sessions → All (Good load) (clients z)
+  clients_good there = All-map (Good load) (λ (x : Session). Client x.number) z.sessions (All-weaker (λ (x : Session). x.number < length load.sessions) (λ x. Good load (Client x.number)) (λ x less. (less, tt)) z.sessions there)
+
+  ring_good : All (Good load) (ring d z)
+  ring_good =
+      all_flat (Good load) (λ i. i < length z.queues) (λ i. Stamp d ((z.token.at + i) % length z.queues) ∷ Token d ∷ []) (below (length z.queues))
+      (λ i any. All-cons (Good load) (Stamp d ((z.token.at + i) % length z.queues)) (Token d ∷ []) (within, tt) (All-cons (Good load) (Token d) [] (within, tt) (All-nil (Good load)))) (all_below (length z.queues))
+
+  places_good : All (Good load) (places d z)
+  places_good =
+      all_flat (Good load) (λ i. i < length z.queues) (λ q. numbered (Place d q) (length z.maintainers)) (below (length z.queues))
+      (λ q any. all_numbered (Good load) (Place d q) (length z.maintainers) (λ m less. (within, tt))) (all_below (length z.queues))
+
+  gossips_good : All (Good load) (gossips d z)
+  gossips_good =
+      all_flat (Good load) (λ i. i < length z.maintainers) (λ m. numbered (Gossip d m) (length z.maintainers)) (below (length z.maintainers))
+      (λ m any. all_numbered (Good load) (Gossip d m) (length z.maintainers) (λ k less. (within, tt))) (all_below (length z.maintainers))
+
+  round_good : All (λ (x : Session). x.number < length load.sessions) z.sessions → All (Good load) (local_round d z)
+  round_good there =
+      let G : Step → Type 0 = Good load in
+      let flush : All G (flushes d z) = all_numbered G (Flush d) (length z.batchers) (λ b less. (within, tt)) in
+      let pass : All G (passes d z) = all_numbered G (λ f. Pass d f (f % length z.queues)) (length z.filters) (λ f less. (within, tt)) in
+      let one = All-append G (clients z) (flushes d z) (clients_good there) flush in
+      let two = All-append G (clients z ++ flushes d z) (passes d z) one pass in
+      let three = All-append G (clients z ++ flushes d z ++ passes d z) (ring d z) two ring_good in
+      let four = All-append G (clients z ++ flushes d z ++ passes d z ++ ring d z) (places d z) three places_good in
+      let five = All-append G (clients z ++ flushes d z ++ passes d z ++ ring d z ++ places d z) (gossips d z) four gossips_good in
+      All-append G (clients z ++ flushes d z ++ passes d z ++ ring d z ++ places d z ++ gossips d z) (Learn d ∷ []) five (All-cons G (Learn d) [] (within, tt) (All-nil G))
+
+-- the sessions of a datacentre are there
+sessions_there : (w : World) (d : ℕ) (z : Datacentre) → StandsAt w d z → All (λ (x : Session). x.number < length w.workload.sessions) z.sessions
+sessions_there w d z stands = All-weaker (IsAsFar w.workload w.sessions (log_of w d) d z.floor) (λ (x : Session). x.number < length w.workload.sessions) (λ x far. far.home.there) z.sessions stands.sessions
+
+pub rounds_may : (script : Script) (ts : List Taken) (s : StagesState) (ds : List ℕ) → HasTaken script ts s → All (λ d. d < s.workload.dcs) ds → MayBePlayed s.workload (rounds (stages_after script ts) ds)
+rounds_may script ts s ds h there =
+    let w : World = world_of s.workload s.events in
+    let z : Stages = stages_after script ts in
+    let stands : StandsFor w z = (run_of script ts s h).1 in
+    let load : w.workload ≡ s.workload = workload_is s.workload s.events in
+    both s.workload (rounds z ds)
+    (all_flat (Good s.workload) (λ d. d < s.workload.dcs) (λ d. local_round d (datacentre_at z d)) ds
+      (λ d within. round_good s.workload d (datacentre_at z d) within
+        (subst (λ (l : Workload). All (λ (x : Session). x.number < length l.sessions) (datacentre_at z d).sessions) load
+          (sessions_there w d (datacentre_at z d) (stands.each d (subst (λ (l : Workload). d < l.dcs) (sym load) within)))))
+      there)
+
+-- Errands are between two
+
+between_two : (dcs d e senders : ℕ) → d < dcs → e < dcs → All (λ (x : Errand). AreTwo dcs x.from x.to) (errands_between d e senders)
+between_two dcs d e senders in_d in_e =
+    let P : Errand → Type 0 = λ x. AreTwo dcs x.from x.to in
+    let one : ℕ → Errand = λ k. record { from = d; to = e; sender = k } in
+    cond_both (eqb d e) [] (numbered one senders) (All P) (λ same. All-nil P)
+    (λ apart. all_numbered P one senders (λ k less. record { first = in_d; second = in_e; apart = eqb-false d e apart }))
+
+pub errands_two : (z : Stages) → All (λ (x : Errand). AreTwo (length z.datacentres) x.from x.to) (errands z)
+errands_two z =
+    let dcs : ℕ = length z.datacentres in
+    all_flat (λ (x : Errand). AreTwo dcs x.from x.to) (λ d. d < dcs) (λ d. errands_from d dcs (datacentre_at z d).senders) (below dcs)
+    (λ d in_d. all_flat (λ (x : Errand). AreTwo dcs x.from x.to) (λ e. e < dcs) (λ e. errands_between d e (datacentre_at z d).senders) (below dcs)
+      (λ e in_e. between_two dcs d e (datacentre_at z d).senders in_d in_e) (all_below dcs))
+    (all_below dcs)

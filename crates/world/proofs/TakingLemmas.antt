@@ -1,5 +1,5 @@
 -- Turns one after another.
-use Rattle.std.proofs.Common.{◌≡◌, Bool, false, List, [], ◌∷◌, ◌++◌, refl, ap, ap₂, sym, ◌∙◌, subst}
+use Rattle.std.proofs.Common.{◌≡◌, inl, inr, Bool, true, false, List, [], ◌∷◌, ◌++◌, refl, ap, ap₂, sym, ◌∙◌, subst}
 use Rattle.std.specs.List.{All, AllZip}
 use Rattle.std.proofs.lemmas.List.{map_push, append_assoc, append-nil}
 use Rattle.std.proofs.lemmas.List.Elements.{All-push}
@@ -16,14 +16,15 @@ use Rattle.log_laws.proofs.LimitedRuns.{laws_of_run, workload_is}
 use Rattle.stage_world.specs.Stages.{Stages}
 use Rattle.stage_world.specs.Opening.{opening}
 use Rattle.stage_world.specs.Schedules.{IsStep, after_steps, events_of, step_of}
+use Rattle.stage_world.specs.Idle.{IsIdleTurn}
 use Rattle.stage_world.specs.Whole.{StandsFor}
 use Rattle.stage_world.proofs.AllTurns.{schedule}
 use Rattle.stage_turns.specs.declared.done.TurnDone.{TurnDone}
 use Rattle.datacentre.specs.Leaving.{IsLeftBy}
 use Rattle.world.specs.declared.sites.Sites.{Sites}
 use Rattle.world.specs.declared.stages.Played.{Played}
-use Rattle.world.specs.Showing.{AreBuilt, HasMoved, IsBuiltStep, MayStep, Shows}
-use Rattle.world.specs.Taking.{HasTaken, IsPlayed, IsTaken, StagesState, Taken, events_after, lines_of, stages_after, steps_of}
+use Rattle.world.specs.Showing.{AreBuilt, HasMoved, IsBuiltStep, MayStep, Shows, TellsIdle}
+use Rattle.world.specs.Taking.{AreLines, HasTaken, IsBefore, IsPlayed, IsTaken, StagesState, Taken, events_after, line_of, lines_told, stages_after, steps_of}
 use Rattle.world.proofs.LeftLemmas.{left_of_all}
 
 pub after_push : (load : Workload) (z : Stages) (ts : List Step) (t : Step) → after_steps load z (ts ++ t ∷ []) ≡ (step_of load (after_steps load z ts) t).after
@@ -35,10 +36,30 @@ events_push load z [] t = append-nil (step_of load z t).events
 events_push load z (s ∷ ts) t = ap (λ es. (step_of load z s).events ++ es) (events_push load (step_of load z s).after ts t)
     ∙ sym (append_assoc (step_of load z s).events (events_of load (step_of load z s).after ts) (step_of load (after_steps load (step_of load z s).after ts) t).events)
 
-pub lines_push : (load : Workload) (z : Stages) (ts : List Taken) (t : Taken)
-    → lines_of load z (ts ++ t ∷ []) ≡ lines_of load z ts ++ record { step = t.step; outcome = (step_of load (after_steps load z (steps_of ts)) t.step).outcome; settling = t.settling } ∷ []
-lines_push load z [] t = refl
-lines_push load z (s ∷ ts) t = ap (λ ls. record { step = s.step; outcome = (step_of load z s.step).outcome; settling = s.settling } ∷ ls) (lines_push load (step_of load z s.step).after ts t)
+-- more lines behind
+before_push : (idle : Type 0) (line : StageLine) (rest lines more : List StageLine) → IsBefore idle line rest lines → IsBefore idle line (rest ++ more) (lines ++ more)
+before_push idle line rest lines more before = elim before [
+  | inl written ↦ inl (ap (λ ls. ls ++ more) written.0, written.1)
+  | inr left ↦ inr (ap (λ ls. ls ++ more) left.0, left.1, left.2)
+]
+
+pub lines_push : (load : Workload) (z : Stages) (ts : List Taken) (t : Taken) (lines more : List StageLine) → AreLines load z ts lines
+    → IsBefore (IsIdleTurn load (after_steps load z (steps_of ts)) t.step) (line_of load (after_steps load z (steps_of ts)) t) [] more → AreLines load z (ts ++ t ∷ []) (lines ++ more)
+lines_push load z [] t lines more are before = ([], subst (λ ls. IsBefore (IsIdleTurn load z t.step) (line_of load z t) [] (ls ++ more)) (sym are) before, refl)
+lines_push load z (s ∷ ts) t lines more are before =
+    (are.0 ++ more, before_push (IsIdleTurn load z s.step) (line_of load z s) are.0 lines more are.1, lines_push load (step_of load z s.step).after ts t are.0 more are.2 before)
+
+-- what a turn writes: its line, or none where it is left out
+abbrev pub Wrote : Workload → Stages → Step → Bool → Outcome → List StageLine → Type 0
+Wrote load z step settling outcome more = IsBefore (IsIdleTurn load z step) (record { step = step; outcome = outcome; settling = settling }) [] more
+
+-- the line is left out exactly where the turn is one of settling and changed nothing
+pub wrote_if : (load : Workload) (z : Stages) (step : Step) (settling changed : Bool) (outcome : Outcome) → TellsIdle load z step changed
+    → Wrote load z step settling outcome (lines_told step outcome settling changed)
+wrote_if load z step false false outcome tells = inl (refl, λ s i. absurd (cc))
+wrote_if load z step false true outcome tells = inl (refl, λ s i. absurd (cc))
+wrote_if load z step true true outcome tells = inl (refl, λ s i. tells.other refl i)
+wrote_if load z step true false outcome tells = inr (refl, refl, tells.idle refl)
 
 -- Stages that have taken turns stand for the world of their run.
 
@@ -68,43 +89,48 @@ pub may_take_some : (s : StagesState) (step : Step) → IsTaken s → IsStep s.w
 may_take_some s step h good built = (stages_after h.script h.turns, may_take h.script h.turns s step h.taken good built)
 
 -- the state after one more turn
-abbrev pub state_with : StagesState → Step → Bool → Sites → TurnDone → StagesState
-state_with s step settling sites done = record {
+abbrev pub state_with : StagesState → Sites → List Event → List StageLine → StagesState
+state_with s sites events more = record {
   workload = s.workload;
   sites = sites;
-  events = s.events ++ done.events;
-  lines = s.lines ++ record { step = step; outcome = done.outcome; settling = settling } ∷ [];
+  events = s.events ++ events;
+  lines = s.lines ++ more;
   failed = false;
 }
 
-pub taken_next : (script : Script) (ts : List Taken) (s : StagesState) (step : Step) (settling : Bool) (sites : Sites) (done : TurnDone) → HasTaken script ts s → IsStep s.workload step
-    → HasMoved s.workload.dcs (step_of s.workload (stages_after script ts) step) sites done → HasTaken script (ts ++ record { step = step; settling = settling } ∷ []) (state_with s step settling sites done)
-taken_next script ts s step settling sites done h good moved =
-    let load : Workload = script.workload in
-    let z : Stages = opening script in
-    let t : Taken = record { step = step; settling = settling } in
-    let steps : steps_of (ts ++ t ∷ []) ≡ steps_of ts ++ step ∷ [] = map_push (λ (x : Taken). x.step) ts t in
-    let here : HasMoved load.dcs (step_of load (stages_after script ts) step) sites done = subst (λ (l : Workload). HasMoved l.dcs (step_of l (stages_after script ts) step) sites done) h.workload moved in
-    record {
-      fits = h.fits;
-      built = h.built;
-      steps = subst (All (IsStep load)) (sym steps) (All-push (IsStep load) (steps_of ts) step h.steps (subst (λ l. IsStep l step) h.workload good));
-      well = refl;
-      workload = h.workload;
-      shown = subst (λ y. Shows load.dcs y sites) (sym (ap (after_steps load z) steps ∙ after_push load z (steps_of ts) step)) here.shown;
-      events = ap₂ (λ (a : List Event) (b : List Event). a ++ b) h.events here.events ∙ sym (ap (events_of load z) steps ∙ events_push load z (steps_of ts) step);
-      lines =
-          ap₂ (λ (a : List StageLine) (o : Outcome). a ++ record { step = step; outcome = o; settling = settling } ∷ []) h.lines here.outcome
-          ∙ sym (lines_push load z ts t);
-    }
+module _ (s : StagesState) (step : Step) (settling : Bool) (sites : Sites) (done : TurnDone) (more : List StageLine) (good : IsStep s.workload step) (built : IsBuiltStep step) where
+  -- what one more turn does to all, and what it writes
+  abbrev Moves : Stages → Type 0
+  Moves z = HasMoved s.workload.dcs (step_of s.workload z step) sites done × Wrote s.workload z step settling done.outcome more
 
-pub some_next : (s : StagesState) (step : Step) (settling : Bool) (sites : Sites) (done : TurnDone) → IsTaken s → IsStep s.workload step → IsBuiltStep step
-    → ((z : Stages) → MayStep s.workload step z s.sites → HasMoved s.workload.dcs (step_of s.workload z step) sites done) → IsTaken (state_with s step settling sites done)
-some_next s step settling sites done h good built moves = record {
-  script = h.script;
-  turns = h.turns ++ record { step = step; settling = settling } ∷ [];
-  taken = taken_next h.script h.turns s step settling sites done h.taken good (moves (stages_after h.script h.turns) (may_take h.script h.turns s step h.taken good built));
-}
+  pub taken_next : (script : Script) (ts : List Taken) → HasTaken script ts s → Moves (stages_after script ts) → HasTaken script (ts ++ record { step = step; settling = settling } ∷ []) (state_with s sites done.events more)
+  taken_next script ts h does =
+      let load : Workload = script.workload in
+      let z : Stages = opening script in
+      let now : Stages = stages_after script ts in
+      let t : Taken = record { step = step; settling = settling } in
+      let steps : steps_of (ts ++ t ∷ []) ≡ steps_of ts ++ step ∷ [] = map_push (λ (x : Taken). x.step) ts t in
+      let here : HasMoved load.dcs (step_of load now step) sites done = subst (λ (l : Workload). HasMoved l.dcs (step_of l now step) sites done) h.workload does.0 in
+      let wrote : Wrote load now step settling done.outcome more = subst (λ (l : Workload). Wrote l now step settling done.outcome more) h.workload does.1 in
+      record {
+        fits = h.fits;
+        built = h.built;
+        steps = subst (All (IsStep load)) (sym steps) (All-push (IsStep load) (steps_of ts) step h.steps (subst (λ l. IsStep l step) h.workload good));
+        well = refl;
+        workload = h.workload;
+        shown = subst (λ y. Shows load.dcs y sites) (sym (ap (after_steps load z) steps ∙ after_push load z (steps_of ts) step)) here.shown;
+        events = ap₂ (λ (a : List Event) (b : List Event). a ++ b) h.events here.events ∙ sym (ap (events_of load z) steps ∙ events_push load z (steps_of ts) step);
+        lines =
+            lines_push load z ts t s.lines more h.lines
+            (subst (λ (o : Outcome). Wrote load now step settling o more) here.outcome wrote);
+      }
+
+  pub some_next : ((z : Stages) → MayStep s.workload step z s.sites → Moves z) → IsTaken s → IsTaken (state_with s sites done.events more)
+  some_next moves h = record {
+    script = h.script;
+    turns = h.turns ++ record { step = step; settling = settling } ∷ [];
+    taken = taken_next h.script h.turns h.taken (moves (stages_after h.script h.turns) (may_take h.script h.turns s step h.taken good built));
+  }
 
 pub played : (script : Script) (ts : List Taken) (s : StagesState) (result : Played) → HasTaken script ts s → result.run.workload ≡ s.workload → result.run.events ≡ s.events → result.stages ≡ s.lines
     → AllZip IsLeftBy s.sites.datacentres result.left → IsPlayed script ts result
@@ -116,33 +142,30 @@ played script ts s result h workload events lines left =
     record {
       workload = workload ∙ h.workload;
       events = is;
-      lines = lines ∙ h.lines;
+      lines = subst (AreLines script.workload (opening script) ts) (sym lines) h.lines;
       is_run = subst (IsRun script.workload) (sym is) run.0;
       stands = stands;
       left = left_of_all w (stages_after script ts) s.sites result.left
           (subst (λ n. Shows n (stages_after script ts) s.sites) (sym (ap (λ (l : Workload). l.dcs) (workload_is script.workload result.run.events))) h.shown) stands left;
     }
 
--- what was written is as the code has it
-written : (s : StagesState) (step : Step) (settling : Bool) (sites : Sites) (done : TurnDone) (es : List Event) (ls : List StageLine) → es ≡ s.events ++ done.events
-    → ls ≡ s.lines ++ record { step = step; outcome = done.outcome; settling = settling } ∷ []
-    → state_with s step settling sites done ≡ record { workload = s.workload; sites = sites; events = es; lines = ls; failed = false }
-written s step settling sites done es ls events lines =
-    ap₂ (λ (a : List Event) (b : List StageLine). record { workload = s.workload; sites = sites; events = a; lines = b; failed = false }) (sym events) (sym lines)
-
-module _ (s : StagesState) (step : Step) (settling : Bool) (sites : Sites) (done : TurnDone) (es : List Event) (ls : List StageLine) (events : es ≡ s.events ++ done.events)
-    (lines : ls ≡ s.lines ++ record { step = step; outcome = done.outcome; settling = settling } ∷ []) (good : IsStep s.workload step) (built : IsBuiltStep step)
-    (moves : (z : Stages) → MayStep s.workload step z s.sites → HasMoved s.workload.dcs (step_of s.workload z step) sites done) where
+-- What was written is as the code has it.
+module _ (s : StagesState) (step : Step) (settling : Bool) (sites : Sites) (done : TurnDone) (more : List StageLine) (es : List Event) (ls : List StageLine) (events : es ≡ s.events ++ done.events)
+    (lines : ls ≡ s.lines ++ more) (good : IsStep s.workload step) (built : IsBuiltStep step)
+    (moves : (z : Stages) → MayStep s.workload step z s.sites → HasMoved s.workload.dcs (step_of s.workload z step) sites done × Wrote s.workload z step settling done.outcome more) where
   abbrev new : StagesState
   new = record { workload = s.workload; sites = sites; events = es; lines = ls; failed = false }
 
+  written : state_with s sites done.events more ≡ new
+  written = ap₂ (λ (a : List Event) (b : List StageLine). record { workload = s.workload; sites = sites; events = a; lines = b; failed = false }) (sym events) (sym lines)
+
   pub some_written : IsTaken s → IsTaken new
-  some_written h = subst IsTaken (written s step settling sites done es ls events lines) (some_next s step settling sites done h good built moves)
+  some_written h = subst IsTaken written (some_next s step settling sites done more good built moves h)
 
   pub taken_written : (script : Script) (ts : List Taken) → HasTaken script ts s → HasTaken script (ts ++ record { step = step; settling = settling } ∷ []) new
   taken_written script ts h =
-      subst (HasTaken script (ts ++ record { step = step; settling = settling } ∷ [])) (written s step settling sites done es ls events lines)
-      (taken_next script ts s step settling sites done h good (moves (stages_after script ts) (may_take script ts s step h good built)))
+      subst (HasTaken script (ts ++ record { step = step; settling = settling } ∷ [])) written
+      (taken_next s step settling sites done more good built script ts h (moves (stages_after script ts) (may_take script ts s step h good built)))
 
   pub run_written : IsTaken s → IsRun s.workload es
   run_written h = let is : IsTaken new = some_written h in (run_of is.script is.turns new is.taken).0

@@ -1,5 +1,5 @@
-pub mod Finishing
 pub mod Links
 pub mod Replays
+pub mod Settled
 pub mod Showing
 pub mod Taking

@@ -1,5 +1,5 @@
 -- The packets of a link among the rows of all links.
-use Rattle.std.specs.Prelude.{ℕ, ◌<◌, true, false, List, [], length, Option, slice_index_or, slice_set}
+use Rattle.std.specs.Prelude.{ℕ, ◌<◌, Bool, true, false, List, [], length, Option, slice_index_or, slice_set}
 use Rattle.std.specs.Option.{option_map_or}
 use Rattle.abstract_log.specs.declared.script.Outcome.{Outcome}
 use Rattle.abstract_log.specs.declared.script.Outcome.TheVariants.{Absent, Copied as CopiedTo, Lost}
@@ -21,6 +21,12 @@ pub record AreThere (d e : ℕ) (links : List (List (List (List ℕ)))) : Type 0
 -- what is answered where this packet is to be lost
 abbrev pub lose_outcome : Option (List ℕ) → Outcome
 lose_outcome o = option_map_or (λ packet. Lost) o Absent
+
+-- there was a packet to be copied
+abbrev pub is_copied : Copied → Bool
+is_copied NoPacket = false
+is_copied Done = true
+is_copied (Overflow packet) = true
 
 -- what is answered to a copy once so many packets are in the link
 abbrev pub outcome_of_copy : Copied → ℕ → Outcome

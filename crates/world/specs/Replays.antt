@@ -1,20 +1,28 @@
 -- What replaying a script gives.
-use Rattle.std.specs.Prelude.{◌≡◌, List, length, take}
+use Rattle.std.specs.Prelude.{◌≡◌, List, ◌++◌}
 use Rattle.abstract_log.specs.declared.script.Script.{Script}
+use Rattle.abstract_log.specs.declared.script.Step.{Step}
 use Rattle.abstract_log.specs.Left.{left_of}
 use Rattle.abstract_log.specs.Runs.{IsRun, IsFinished, world_of}
-use Rattle.world.specs.declared.stages.Played.{Played}
-use Rattle.world.specs.Taking.{Taken, steps_of, events_after, lines_of}
 use Rattle.stage_world.specs.Opening.{opening}
+use Rattle.stage_world.specs.Schedules.{after_steps}
+use Rattle.stage_world.specs.Settling.{IsSettlingUpTo}
+use Rattle.world.specs.declared.stages.Played.{Played}
+use Rattle.world.specs.Taking.{AreLines, Taken, events_after, settled, taken_of}
 
--- The run is one on the script's workload, of the script's steps and then of more turns, with a line for each of them; it is finished,
+-- The turns of a script: its own steps, and then those of settling.
+abbrev pub turns_of : Script → List Step → List Taken
+turns_of script settling = taken_of script.steps ++ settled settling
+
+-- The run is one on the script's workload. Its turns are the script's steps, and then exactly the turns by which the stages settle from
+-- there on, marked as such; the lines are those of all turns but the idle ones of settling. The run is finished,
 -- and what it leaves is told.
 pub record IsReplayed (script : Script) (played : Played) : Type 0 where
-  pub turns : List Taken
-  pub begins : take (length script.steps) (steps_of turns) ≡ script.steps
+  pub settling : List Step
+  pub settles : IsSettlingUpTo 524288 script.workload (after_steps script.workload (opening script) script.steps) settling
   pub workload : played.run.workload ≡ script.workload
-  pub events : played.run.events ≡ events_after script turns
-  pub lines : played.stages ≡ lines_of script.workload (opening script) turns
+  pub events : played.run.events ≡ events_after script (turns_of script settling)
+  pub lines : AreLines script.workload (opening script) (turns_of script settling) played.stages
   pub is_run : IsRun script.workload played.run.events
   pub finished : IsFinished (world_of script.workload played.run.events)
   pub left : played.left ≡ left_of (world_of script.workload played.run.events)

@@ -13,6 +13,7 @@ use Rattle.stage_world.specs.Stages.{Datacentre, Stages}
 use Rattle.stage_world.specs.Opening.{one_of_each, opening_at}
 use Rattle.stage_world.specs.LinkTurns.{Moved}
 use Rattle.stage_world.specs.Schedules.{IsStep, turn_of}
+use Rattle.stage_world.specs.Idle.{IsIdleTurn, TellsChange}
 use Rattle.stage_world.specs.Whole.{StandsFor}
 use Rattle.stage_turns.specs.declared.done.TurnDone.{TurnDone}
 use Rattle.stage_world.specs.Turns.{Turned}
@@ -50,6 +51,11 @@ pub record HasMoved (dcs : ℕ) (moved : Moved) (sites : Sites) (done : TurnDone
   pub shown : Shows dcs moved.after sites
   pub outcome : done.outcome ≡ moved.outcome
   pub events : done.events ≡ moved.events
+
+-- It is told whether a step is idle.
+pub record TellsIdle (load : Workload) (z : Stages) (step : Step) (changed : Bool) : Type 0 where
+  pub idle : changed ≡ false → IsIdleTurn load z step
+  pub other : changed ≡ true → IsIdleTurn load z step → ⊥
 
 -- all commands are appends, puts and reads
 abbrev pub AreBuilt : Workload → Type 0
@@ -131,17 +137,19 @@ pub record MayReceiveAt (d from : ℕ) (packet : List ℕ) (datacentres : List D
   pub log : StandsForALog d stages
   pub told : IsToldBy (length stages.table) from packet
 
--- Datacentre d took a turn, and the others did nothing.
-pub record HasTurned (d : ℕ) (turned : Turned) (old new : List DatacentreState) (done : TurnDone) : Type 0 where
+-- Datacentre d with stages z took a turn, and the others did nothing.
+pub record HasTurned (d : ℕ) (z : Datacentre) (turned : Turned) (old new : List DatacentreState) (done : TurnDone) : Type 0 where
   pub datacentres : new ≡ slice_set old d (record { dc = d; stages = Some turned.after })
   pub outcome : done.outcome ≡ turned.outcome
   pub events : done.events ≡ turned.events
+  pub changed : TellsChange done.changed z turned.after
 
 -- Sender k of datacentre d answered, and made a packet for e if it is there; no stage changed.
 pub record HasSent (d k e : ℕ) (z : Datacentre) (old new : List DatacentreState) (sent : TurnDone × Option (List ℕ)) : Type 0 where
   pub datacentres : new ≡ old
   pub outcome : sent.0.outcome ≡ (turn_of d z (Send d k e)).outcome
   pub events : sent.0.events ≡ []
+  pub changed : sent.0.changed ≡ false
   pub packet : IsPacketOf d z k e sent.1
 
 -- The sites show stages that stand for a world which a run has left, and may take this step.

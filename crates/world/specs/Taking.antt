@@ -1,7 +1,8 @@
 -- The turns that all stages have taken since a script opened them.
-use Rattle.std.specs.Prelude.{◌≡◌, Bool, false, List, [], ◌∷◌, ◌++◌, map, All}
+use Rattle.std.specs.Prelude.{◌≡◌, ◌⊎◌, ◌||◌, Bool, true, false, not, if◌then◌else◌, List, [], ◌∷◌, ◌++◌, map, All}
 use Rattle.abstract_log.specs.declared.command.Workload.{Workload}
 use Rattle.abstract_log.specs.declared.event.Event.{Event}
+use Rattle.abstract_log.specs.declared.script.Outcome.{Outcome}
 use Rattle.abstract_log.specs.declared.script.Script.{Script}
 use Rattle.abstract_log.specs.declared.script.StageLine.{StageLine}
 use Rattle.abstract_log.specs.declared.script.Step.{Step}
@@ -11,6 +12,7 @@ use Rattle.abstract_log.specs.Runs.{IsRun, world_of}
 use Rattle.stage_world.specs.Stages.{Stages}
 use Rattle.stage_world.specs.Opening.{opening}
 use Rattle.stage_world.specs.Schedules.{IsStep, after_steps, events_of, step_of}
+use Rattle.stage_world.specs.Idle.{IsIdleTurn}
 use Rattle.stage_world.specs.Whole.{StandsFor}
 use Rattle.world.specs.declared.sites.Sites.{Sites}
 use Rattle.world.specs.declared.stages.Played.{Played}
@@ -24,11 +26,32 @@ pub record Taken : Type 0 where
 abbrev pub steps_of : List Taken → List Step
 steps_of ts = map (λ t. t.step) ts
 
--- the stage lines of turns from stages z on
-abbrev pub lines_of : Workload → Stages → List Taken → List StageLine
-lines_of load z [] = []
-lines_of load z (t ∷ ts) =
-    record { step = t.step; outcome = (step_of load z t.step).outcome; settling = t.settling } ∷ lines_of load (step_of load z t.step).after ts
+-- the turns of a script's own steps, and of settling
+abbrev pub taken_of : List Step → List Taken
+taken_of steps = map (λ s. record { step = s; settling = false }) steps
+
+abbrev pub settled : List Step → List Taken
+settled steps = map (λ s. record { step = s; settling = true }) steps
+
+-- the stage line of a turn from stages z on
+abbrev pub line_of : Workload → Stages → Taken → StageLine
+line_of load z t = record { step = t.step; outcome = (step_of load z t.step).outcome; settling = t.settling }
+
+-- These lines are a line before these others, or the others alone: that of a turn of settling is left out exactly where the turn is idle.
+abbrev pub IsBefore : Type 0 → StageLine → List StageLine → List StageLine → Type 0
+IsBefore idle line more lines =
+    ((lines ≡ line ∷ more) × (line.settling ≡ true → idle → ⊥))
+    ⊎ ((lines ≡ more) × (line.settling ≡ true) × idle)
+
+-- what is written of a turn: its line, or nothing where it is one of settling and changed nothing
+abbrev pub lines_told : Step → Outcome → Bool → Bool → List StageLine
+lines_told step outcome settling changed = if changed || not settling then record { step = step; outcome = outcome; settling = settling } ∷ [] else []
+
+-- The stage lines of turns from stages z on: one for each turn, but for those of settling that are idle.
+abbrev pub AreLines : Workload → Stages → List Taken → List StageLine → Type 0
+AreLines load z [] lines = lines ≡ []
+AreLines load z (t ∷ ts) lines =
+    (more : List StageLine) × IsBefore (IsIdleTurn load z t.step) (line_of load z t) more lines × AreLines load (step_of load z t.step).after ts more
 
 -- the stages after turns, and their events
 abbrev pub stages_after : Script → List Taken → Stages
@@ -54,7 +77,7 @@ pub record HasTaken (script : Script) (ts : List Taken) (s : StagesState) : Type
   pub workload : s.workload ≡ script.workload
   pub shown : Shows script.workload.dcs (stages_after script ts) s.sites
   pub events : s.events ≡ events_after script ts
-  pub lines : s.lines ≡ lines_of script.workload (opening script) ts
+  pub lines : AreLines script.workload (opening script) ts s.lines
 
 -- These are stages that some script opens, after some turns.
 pub record IsTaken (s : StagesState) : Type 0 where
@@ -67,11 +90,7 @@ pub record IsTaken (s : StagesState) : Type 0 where
 pub record IsPlayed (script : Script) (ts : List Taken) (played : Played) : Type 0 where
   pub workload : played.run.workload ≡ script.workload
   pub events : played.run.events ≡ events_after script ts
-  pub lines : played.stages ≡ lines_of script.workload (opening script) ts
+  pub lines : AreLines script.workload (opening script) ts played.stages
   pub is_run : IsRun script.workload played.run.events
   pub stands : StandsFor (world_of script.workload played.run.events) (stages_after script ts)
   pub left : played.left ≡ left_of (world_of script.workload played.run.events)
-
--- More turns were taken.
-abbrev pub HasGoneOn : StagesState → StagesState → Type 0
-HasGoneOn old new = (script : Script) (ts : List Taken) → HasTaken script ts old → (more : List Taken) × HasTaken script (ts ++ more) new

@@ -20,7 +20,7 @@ pub(crate) fn take(
     step: &Step,
 ) -> Result<TurnDone, NoMemory>
     requires { MayTurnAt d step.now datacentres.old }
-    ensures { (z : StagesAt) → IsSeenAt d z datacentres.old → IfOk result (HasTurned d (turn_of d z step.now) datacentres.old datacentres.new) }
+    ensures { (z : StagesAt) → IsSeenAt d z datacentres.old → IfOk result (HasTurned d z (turn_of d z step.now) datacentres.old datacentres.new) }
 {
     datacentres.item_mut(d.number() as usize).turn(step)
 }
@@ -47,7 +47,7 @@ pub(crate) fn receive(
     packet: &Packet,
 ) -> Result<TurnDone, NoMemory>
     requires { MayReceiveAt d from packet.now datacentres.old }
-    ensures { (z : StagesAt) (m : Message) → IsSeenAt d z datacentres.old → SpellsMessage (length z.table) packet.now m → IfOk result (HasTurned d (receive_turn d z r m) datacentres.old datacentres.new) }
+    ensures { (z : StagesAt) (m : Message) → IsSeenAt d z datacentres.old → SpellsMessage (length z.table) packet.now m → IfOk result (HasTurned d z (receive_turn d z r m) datacentres.old datacentres.new) }
 {
     datacentres
         .item_mut(d.number() as usize)

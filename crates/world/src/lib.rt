@@ -7,13 +7,16 @@
 #![tactic(auto)]
 
 mod calls;
+mod errands;
 mod laws;
 mod leaving;
 mod linking;
+mod looks;
 mod opening;
 mod packets;
 mod places;
 mod replaying;
+mod rounds;
 mod settling;
 mod sites;
 mod stages;

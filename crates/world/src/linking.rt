@@ -1,9 +1,9 @@
 //! The turns that use a link, as the packets in it see them.
-ghost use Rattle.std.specs.Prelude.{◌≡◌, ◌<◌, ℕ, false, [], if◌then◌else◌, is_some, length, None, List, OnOk, IfOk};
+ghost use Rattle.std.specs.Prelude.{◌≡◌, ◌<◌, ℕ, false, true, [], if◌then◌else◌, is_some, length, None, List, OnOk, IfOk};
 ghost use Rattle.std.specs.Option.{ForSome};
 ghost use Rattle.abstract_log.specs.declared.script.Outcome.TheVariants.{Absent, Lost, Sent};
 ghost use Rattle.lossy_links.specs.Links.{copied, lost_by_put, message_at, put_last, without};
-ghost use Rattle.world.specs.Links.{AreThere, copy_outcome, lose_outcome, outcome_of_copy, packets_at, with_packets};
+ghost use Rattle.world.specs.Links.{AreThere, copy_outcome, is_copied, lose_outcome, outcome_of_copy, packets_at, with_packets};
 
 use crate::packets::{copy, packets_in, put, take_out};
 use abstract_log::Outcome;
@@ -24,6 +24,7 @@ pub(crate) fn put_sent(
     ensures links { ForSome packet (λ bytes. links.new ≡ with_packets links.old d e (put_last (packets_at links.old d e) bytes)) }
     ensures outcome { ForSome packet (λ bytes. (names : List (ℕ × ℕ)) → done.outcome ≡ Sent names 0 false → result.outcome ≡ Sent names (length (packets_at links.new d e)) (is_some (lost_by_put (packets_at links.old d e)))) }
     ensures events { result.events ≡ done.events }
+    ensures changed { ForSome packet (λ _. result.changed ≡ true) }
 {
     let Some(packet) = packet else {
         return done;
@@ -36,23 +37,33 @@ pub(crate) fn put_sent(
 fn in_link(done: TurnDone, link: u32, lost: bool) -> TurnDone
     ensures outcome { (names : List (ℕ × ℕ)) → done.outcome ≡ Sent names 0 false → result.outcome ≡ Sent names link lost }
     ensures events { result.events ≡ done.events }
+    ensures changed { result.changed ≡ true }
 {
     let TurnDone {
+        outcome, events, ..
+    } = done;
+    let outcome = match outcome {
+        Outcome::Sent { names, .. } => Outcome::Sent { names, link, lost },
+        outcome => outcome,
+    };
+    TurnDone {
         outcome,
         events,
-        changed,
+        changed: true,
+    }
+}
+
+/// The turn changed something: a packet left its link.
+pub(crate) fn with_change(done: TurnDone) -> TurnDone
+    ensures { result ≡ record done { changed = true } }
+{
+    let TurnDone {
+        outcome, events, ..
     } = done;
-    match outcome {
-        Outcome::Sent { names, .. } => TurnDone {
-            outcome: Outcome::Sent { names, link, lost },
-            events,
-            changed: true,
-        },
-        outcome => TurnDone {
-            outcome,
-            events,
-            changed,
-        },
+    TurnDone {
+        outcome,
+        events,
+        changed: true,
     }
 }
 
@@ -62,6 +73,7 @@ pub(crate) fn lose_packet(links: &mut Seq<Seq<Link>>, d: DcId, e: DcId, k: u32) 
     ensures links { links.new ≡ with_packets links.old d e (without (packets_at links.old d e) k) }
     ensures outcome { result.outcome ≡ lose_outcome (message_at (packets_at links.old d e) k) }
     ensures events { result.events ≡ [] }
+    ensures changed { result.changed ≡ is_some (message_at (packets_at links.old d e) k) }
 {
     let alloc = links.alloc();
     let found = take_out(links, d, e, k).is_some();
@@ -89,15 +101,27 @@ pub(crate) fn copy_packet(
     ensures links { OnOk result (links.new ≡ with_packets links.old d e (copied (packets_at links.old d e) k)) }
     ensures outcome { IfOk result (λ done. done.outcome ≡ copy_outcome (packets_at links.old d e) k (length (packets_at links.new d e))) }
     ensures events { IfOk result (λ done. done.events ≡ []) }
+    ensures changed { IfOk result (λ done. done.changed ≡ is_some (message_at (packets_at links.old d e) k)) }
 {
     let alloc = links.alloc();
     let answer = copy(links, d, e, k)?;
-    let changed = !matches!(answer, Copied::Absent);
+    let changed = was_copied(&answer);
     Ok(TurnDone {
         outcome: answered_to_copy(answer, packets_in(links, d, e)),
         events: Seq::new(alloc),
         changed,
     })
+}
+
+// Whether there was a packet to be copied.
+fn was_copied(answer: &Copied) -> bool
+    ensures { result ≡ is_copied answer.now }
+{
+    match answer {
+        Copied::Absent => false,
+        Copied::Done => true,
+        Copied::Overflow(_) => true,
+    }
 }
 
 fn answered_to_copy(answer: Copied, link: u32) -> Outcome

@@ -1,9 +1,9 @@
 //! Where a step is taken.
-ghost use Rattle.std.specs.Prelude.{◌≡◌, true};
-ghost use Rattle.stage_world.specs.Schedules.{AreTwo, IsStep, place_of_step};
-ghost use Rattle.world.specs.Showing.{IsBuiltStep, uses_link};
+ghost use Rattle.std.specs.Prelude.{◌≡◌};
+ghost use Rattle.stage_world.specs.Schedules.{IsStep, place_of_step};
+ghost use Rattle.world.specs.Showing.{uses_link};
 
-use abstract_log::{Outcome, Step, Workload};
+use abstract_log::{Step, Workload};
 use cz_base::DcId;
 
 /// The datacentre whose stage takes the turn.
@@ -74,42 +74,5 @@ pub(crate) fn uses_link(step: &Step) -> bool
         Step::AddQueue { d: _ } => false,
         Step::AddSender { d: _ } => false,
         Step::AddReceiver { d: _ } => false,
-    }
-}
-
-/// Whether settling may take the step: what it names is there.
-pub(crate) fn may_play(workload: &Workload, step: &Step) -> bool
-    ensures { result ≡ true → IsStep workload.now step.now × IsBuiltStep step.now }
-{
-    match *step {
-        Step::Client { s } => (s as usize) < workload.sessions.len(),
-        Step::Flush { d, b: _ } => d.number() < workload.dcs,
-        Step::Pass { d, f: _, q: _ } => d.number() < workload.dcs,
-        Step::Stamp { d, q: _ } => d.number() < workload.dcs,
-        Step::Token { d } => d.number() < workload.dcs,
-        Step::Place { d, q: _, m: _ } => d.number() < workload.dcs,
-        Step::Gossip { d, m: _, k: _ } => d.number() < workload.dcs,
-        Step::Learn { d } => d.number() < workload.dcs,
-        Step::Send { d, k: _, e } => are_two(workload, d, e),
-        Step::Deliver { d, e, k: _, r: _ } => are_two(workload, d, e),
-        _ => false,
-    }
-}
-
-fn are_two(workload: &Workload, d: DcId, e: DcId) -> bool
-    ensures { result ≡ true → AreTwo workload.now.dcs d e }
-{
-    d.number() < workload.dcs && e.number() < workload.dcs && d.number() != e.number()
-}
-
-/// How many packets are in the link, where something was sent.
-pub(crate) fn sent_of(outcome: &Outcome) -> Option<u32> {
-    match *outcome {
-        Outcome::Sent {
-            names: _,
-            link,
-            lost: _,
-        } => Some(link),
-        _ => None,
     }
 }

@@ -1,271 +1,152 @@
-//! Settling: turns until all is answered and told.
-ghost use Rattle.std.specs.Prelude.{OnOk};
-ghost use Rattle.world.specs.Taking.{HasGoneOn};
+//! Settling: turns until every command is answered and every log has every record.
+ghost use Rattle.std.specs.Prelude.{◌≡◌, ◌<◌, OnOk};
+ghost use Rattle.std.specs.List.{All};
+ghost use Rattle.stage_world.specs.Schedules.{AreTwo};
+ghost use Rattle.stage_world.specs.Settling.{IsSettlingUpTo, all_rounds, answering_rounds, errand_turns, exchange_turns, is_answering, is_unfinished, rounds, sent_and_delivered, telling_rounds};
+ghost use Rattle.world.specs.Settled.{HasLooped, MayBePlayed, Plays};
+ghost use Rattle.world.specs.Taking.{IsTaken};
 
+use crate::errands::{Errand, errands};
+use crate::looks::{all_of, answering, is_answering, is_due, is_unfinished, rounds};
+use crate::packets::packets_in;
 use crate::stages::Stages;
-use abstract_log::{Sizes, Step};
+use abstract_log::Step;
 use cz_base::{DcId, NoMemory};
 
-// The most rounds of each part.
-const ROUNDS: u32 = 65536;
+// The most passes of each loop.
+const PASSES: u32 = 524288;
 
 impl Stages {
-    /// Plays on until all is answered and told, at most 65,536 rounds for each of the two parts.
-    pub(crate) fn settle(&mut self, sizes: &[Sizes]) -> Result<(), NoMemory>
-        ensures goes_on { OnOk result (HasGoneOn self.old self.new) }
+    /// Takes the turns of settling. Nothing proves yet that its loops end, so each is given up after 524,288 passes.
+    pub(crate) fn settle(&mut self) -> Result<(), NoMemory>
+        requires { IsTaken self.old }
+        ensures { OnOk result (Plays (IsSettlingUpTo 524288) self.old self.new) }
     {
-        answer_all(self, sizes)?;
-        tell_all(self, sizes)?;
-        play_at_all(self, sizes, false)
+        self.play_until_answered()?;
+        self.play_until_told()?;
+        self.play_everywhere()
     }
-}
 
-// Local rounds until no command is unanswered.
-fn answer_all(stages: &mut Stages, sizes: &[Sizes]) -> Result<(), NoMemory>
-    ensures { OnOk result (HasGoneOn stages.old stages.new) }
-{
-    for _round in 0..ROUNDS {
-        if !some_wait(stages) {
+    // Local rounds where a command is not answered, until all are.
+    fn play_until_answered(&mut self) -> Result<(), NoMemory>
+        requires { IsTaken self.old }
+        ensures { OnOk result (Plays (HasLooped 524288 is_answering answering_rounds) self.old self.new) }
+    {
+        for _pass in 0..PASSES {
+            if !is_answering(&self.sites.datacentres) {
+                return Ok(());
+            }
+            self.play_where_waiting()?;
+        }
+        Ok(())
+    }
+
+    // Local rounds and exchanges until all is answered and told.
+    fn play_until_told(&mut self) -> Result<(), NoMemory>
+        requires { IsTaken self.old }
+        ensures { OnOk result (Plays (HasLooped 524288 is_unfinished telling_rounds) self.old self.new) }
+    {
+        for _pass in 0..PASSES {
+            if !is_unfinished(&self.sites.datacentres) {
+                return Ok(());
+            }
+            self.play_and_tell()?;
+        }
+        Ok(())
+    }
+
+    // A local round of each datacentre, then an exchange.
+    fn play_and_tell(&mut self) -> Result<(), NoMemory>
+        requires { IsTaken self.old }
+        ensures { OnOk result (Plays (λ load z steps. steps ≡ telling_rounds load z) self.old self.new) }
+    {
+        self.play_everywhere()?;
+        self.exchange()
+    }
+
+    // A local round of each datacentre.
+    fn play_everywhere(&mut self) -> Result<(), NoMemory>
+        requires { IsTaken self.old }
+        ensures { OnOk result (Plays (λ load z steps. steps ≡ all_rounds z) self.old self.new) }
+    {
+        let ds = all_of(self.events.alloc(), self.workload.dcs)?;
+        self.play_rounds(ds.as_slice())
+    }
+
+    // A local round of each datacentre with a command that is not answered.
+    fn play_where_waiting(&mut self) -> Result<(), NoMemory>
+        requires { IsTaken self.old }
+        ensures { OnOk result (Plays (λ load z steps. steps ≡ answering_rounds load z) self.old self.new) }
+    {
+        let ds = answering(
+            self.events.alloc(),
+            &self.sites.datacentres,
+            self.workload.dcs,
+        )?;
+        self.play_rounds(ds.as_slice())
+    }
+
+    // Local rounds of these datacentres.
+    fn play_rounds(&mut self, ds: &[DcId]) -> Result<(), NoMemory>
+        requires taken { IsTaken self.old }
+        requires there { All (λ d. d < self.old.workload.dcs) ds.now }
+        ensures { OnOk result (Plays (λ load z steps. steps ≡ rounds z ds.now) self.old self.new) }
+    {
+        let steps = rounds(self.events.alloc(), &self.sites.datacentres, ds)?;
+        self.play(steps.as_slice())
+    }
+
+    // Takes these turns of settling.
+    fn play(&mut self, steps: &[Step]) -> Result<(), NoMemory>
+        requires taken { IsTaken self.old }
+        requires may { MayBePlayed self.old.workload steps.now }
+        ensures { OnOk result (Plays (λ load z played. played ≡ steps.now) self.old self.new) }
+    {
+        for step in steps {
+            self.take(step, true)?;
+        }
+        Ok(())
+    }
+
+    // Each datacentre sends to each other.
+    fn exchange(&mut self) -> Result<(), NoMemory>
+        requires { IsTaken self.old }
+        ensures { OnOk result (Plays (λ load z steps. steps ≡ exchange_turns load z) self.old self.new) }
+    {
+        let them = errands(
+            self.events.alloc(),
+            &self.sites.datacentres,
+            self.workload.dcs,
+        )?;
+        for errand in them.as_slice() {
+            self.run(errand)?;
+        }
+        Ok(())
+    }
+
+    // Does an errand, where it is due.
+    fn run(&mut self, errand: &Errand) -> Result<(), NoMemory>
+        requires taken { IsTaken self.old }
+        requires two { AreTwo self.old.workload.dcs errand.now.from errand.now.to }
+        ensures { OnOk result (Plays (λ load z steps. steps ≡ errand_turns load z errand.now) self.old self.new) }
+    {
+        if !is_due(&self.sites.datacentres, errand) {
             return Ok(());
         }
-        play_at_all(stages, sizes, true)?;
+        self.send_and_deliver(errand)
     }
-    Ok(())
-}
 
-// Local rounds and exchanges until all is answered and told.
-fn tell_all(stages: &mut Stages, sizes: &[Sizes]) -> Result<(), NoMemory>
-    ensures { OnOk result (HasGoneOn stages.old stages.new) }
-{
-    for _round in 0..ROUNDS {
-        if !some_wait(stages) && all_agree(stages) {
-            return Ok(());
-        }
-        play_at_all(stages, sizes, false)?;
-        exchange(stages, sizes)?;
+    // The sender sends, and the newest packet of the link is delivered.
+    fn send_and_deliver(&mut self, errand: &Errand) -> Result<(), NoMemory>
+        requires taken { IsTaken self.old }
+        requires two { AreTwo self.old.workload.dcs errand.now.from errand.now.to }
+        ensures { OnOk result (Plays (λ load z steps. steps ≡ sent_and_delivered load z errand.now) self.old self.new) }
+    {
+        let d = errand.from;
+        let e = errand.to;
+        let k = errand.sender;
+        self.take(&Step::Send { d, k, e }, true)?;
+        let newest = packets_in(&self.sites.links, d, e);
+        self.take(&Step::Deliver { d, e, k: newest, r: 0 }, true)
     }
-    Ok(())
-}
-
-// A local round of each datacentre, or of those with a command that is not answered.
-fn play_at_all(stages: &mut Stages, sizes: &[Sizes], waiting: bool) -> Result<(), NoMemory>
-    ensures { OnOk result (HasGoneOn stages.old stages.new) }
-{
-    for number in 0..stages.dcs() {
-        if let Some(d) = DcId::new(number) {
-            if !waiting || stages.waits(d) {
-                play_at(stages, d, &sizes_of(sizes, d))?;
-            }
-        }
-    }
-    Ok(())
-}
-
-// A local round of datacentre d.
-fn play_at(stages: &mut Stages, d: DcId, sizes: &Sizes) -> Result<(), NoMemory>
-    ensures { OnOk result (HasGoneOn stages.old stages.new) }
-{
-    take_in(stages, d, sizes)?;
-    bring_in(stages, d, sizes)?;
-    stages.play(&Step::Learn { d })
-}
-
-// What sessions ask comes to the queues.
-fn take_in(stages: &mut Stages, d: DcId, sizes: &Sizes) -> Result<(), NoMemory>
-    ensures { OnOk result (HasGoneOn stages.old stages.new) }
-{
-    play_clients(stages, d)?;
-    flush_all(stages, d, sizes.batchers)?;
-    pass_all(stages, d, sizes.filters, sizes.queues)
-}
-
-// What is in the queues comes to the log.
-fn bring_in(stages: &mut Stages, d: DcId, sizes: &Sizes) -> Result<(), NoMemory>
-    ensures { OnOk result (HasGoneOn stages.old stages.new) }
-{
-    stamp_all(stages, d, sizes.queues)?;
-    place_all(stages, d, sizes.queues, sizes.maintainers)?;
-    gossip_all(stages, d, sizes.maintainers)
-}
-
-// The sessions of datacentre d.
-fn play_clients(stages: &mut Stages, d: DcId) -> Result<(), NoMemory>
-    ensures { OnOk result (HasGoneOn stages.old stages.new) }
-{
-    for s in 0..session_count(stages) {
-        if stages.is_home(s, d) {
-            stages.play(&Step::Client { s })?;
-        }
-    }
-    Ok(())
-}
-
-// All batchers flush.
-fn flush_all(stages: &mut Stages, d: DcId, batchers: u32) -> Result<(), NoMemory>
-    ensures { OnOk result (HasGoneOn stages.old stages.new) }
-{
-    for b in 0..batchers {
-        stages.play(&Step::Flush { d, b })?;
-    }
-    Ok(())
-}
-
-// All filters pass, in turn to the queues.
-fn pass_all(stages: &mut Stages, d: DcId, filters: u32, queues: u32) -> Result<(), NoMemory>
-    ensures { OnOk result (HasGoneOn stages.old stages.new) }
-{
-    for f in 0..filters {
-        let q = if queues == 0 { 0 } else { f % queues };
-        stages.play(&Step::Pass { d, f, q })?;
-    }
-    Ok(())
-}
-
-// The token goes once around, and its holder stamps.
-fn stamp_all(stages: &mut Stages, d: DcId, queues: u32) -> Result<(), NoMemory>
-    ensures { OnOk result (HasGoneOn stages.old stages.new) }
-{
-    for _turn in 0..queues {
-        stamp_each(stages, d, queues)?;
-        stages.play(&Step::Token { d })?;
-    }
-    Ok(())
-}
-
-// Each queue stamps, if it holds the token.
-fn stamp_each(stages: &mut Stages, d: DcId, queues: u32) -> Result<(), NoMemory>
-    ensures { OnOk result (HasGoneOn stages.old stages.new) }
-{
-    for q in 0..queues {
-        stages.play(&Step::Stamp { d, q })?;
-    }
-    Ok(())
-}
-
-// All maintainers take what all queues stamped.
-fn place_all(stages: &mut Stages, d: DcId, queues: u32, maintainers: u32) -> Result<(), NoMemory>
-    ensures { OnOk result (HasGoneOn stages.old stages.new) }
-{
-    for q in 0..queues {
-        place_from(stages, d, q, maintainers)?;
-    }
-    Ok(())
-}
-
-// All maintainers take what queue q stamped.
-fn place_from(stages: &mut Stages, d: DcId, q: u32, maintainers: u32) -> Result<(), NoMemory>
-    ensures { OnOk result (HasGoneOn stages.old stages.new) }
-{
-    for m in 0..maintainers {
-        stages.play(&Step::Place { d, q, m })?;
-    }
-    Ok(())
-}
-
-// All maintainers hear of all.
-fn gossip_all(stages: &mut Stages, d: DcId, maintainers: u32) -> Result<(), NoMemory>
-    ensures { OnOk result (HasGoneOn stages.old stages.new) }
-{
-    for m in 0..maintainers {
-        gossip_from(stages, d, m, maintainers)?;
-    }
-    Ok(())
-}
-
-// All maintainers hear of maintainer m.
-fn gossip_from(stages: &mut Stages, d: DcId, m: u32, maintainers: u32) -> Result<(), NoMemory>
-    ensures { OnOk result (HasGoneOn stages.old stages.new) }
-{
-    for k in 0..maintainers {
-        stages.play(&Step::Gossip { d, m, k })?;
-    }
-    Ok(())
-}
-
-// Each datacentre sends to each other.
-fn exchange(stages: &mut Stages, sizes: &[Sizes]) -> Result<(), NoMemory>
-    ensures { OnOk result (HasGoneOn stages.old stages.new) }
-{
-    for number in 0..stages.dcs() {
-        if let Some(d) = DcId::new(number) {
-            let senders = sizes_of(sizes, d).senders;
-            send_from(stages, d, senders)?;
-        }
-    }
-    Ok(())
-}
-
-// Datacentre d sends to each other.
-fn send_from(stages: &mut Stages, d: DcId, senders: u32) -> Result<(), NoMemory>
-    ensures { OnOk result (HasGoneOn stages.old stages.new) }
-{
-    for number in 0..stages.dcs() {
-        if let Some(e) = DcId::new(number) {
-            if number != d.number() {
-                send_between(stages, d, e, senders)?;
-            }
-        }
-    }
-    Ok(())
-}
-
-// All senders of d send to e.
-fn send_between(stages: &mut Stages, d: DcId, e: DcId, senders: u32) -> Result<(), NoMemory>
-    ensures { OnOk result (HasGoneOn stages.old stages.new) }
-{
-    for k in 0..senders {
-        send_one(stages, d, k, e)?;
-    }
-    Ok(())
-}
-
-// Sender k of d sends to e, and the newest packet is delivered.
-fn send_one(stages: &mut Stages, d: DcId, k: u32, e: DcId) -> Result<(), NoMemory>
-    ensures { OnOk result (HasGoneOn stages.old stages.new) }
-{
-    stages.play(&Step::Send { d, k, e })?;
-    match stages.last_sent() {
-        Some(n) => stages.play(&Step::Deliver { d, e, k: n, r: 0 }),
-        None => Ok(()),
-    }
-}
-
-// How many sessions there are.
-fn session_count(stages: &Stages) -> u32 {
-    match u32::try_from(stages.sessions()) {
-        Ok(count) => count,
-        Err(_) => u32::MAX,
-    }
-}
-
-// The members of datacentre d.
-fn sizes_of(sizes: &[Sizes], d: DcId) -> Sizes {
-    match sizes.get(d.number() as usize) {
-        Some(of) => *of,
-        None => Sizes {
-            batchers: 0,
-            filters: 0,
-            queues: 0,
-            maintainers: 0,
-            indexers: 0,
-            senders: 0,
-            receivers: 0,
-        },
-    }
-}
-
-// Whether some command is not answered.
-fn some_wait(stages: &Stages) -> bool {
-    (0..stages.dcs()).any(|number| match DcId::new(number) {
-        Some(d) => stages.waits(d),
-        None => false,
-    })
-}
-
-// Whether all datacentres have as many records of each.
-fn all_agree(stages: &Stages) -> bool {
-    (0..stages.dcs()).all(|number| match DcId::new(number) {
-        Some(d) => stages.agree(DcId::FIRST, d),
-        None => true,
-    })
 }

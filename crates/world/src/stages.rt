@@ -1,17 +1,17 @@
-ghost use Rattle.std.specs.Prelude.{◌≡◌, true, false, List, [], ◌∷◌, ◌++◌, IfOk, OnErr, OnOk, IsErr, IsTrue};
+ghost use Rattle.std.specs.Prelude.{◌≡◌, true, false, List, [], ◌∷◌, ◌++◌, not, IfOk, OnErr, OnOk, IsErr, IsTrue};
 ghost use Rattle.abstract_log.specs.declared.script.Script.{Script as ScriptValue};
 ghost use Rattle.abstract_log.specs.Fits.{FitsScript};
 ghost use Rattle.abstract_log.specs.Runs.{IsFinished, IsRun, world_of};
 ghost use Rattle.stage_world.specs.Schedules.{IsStep};
 ghost use Rattle.world.specs.Showing.{AreBuilt, IsBuiltStep};
+ghost use Rattle.world.specs.Taking.{lines_told};
 
 use crate::leaving::leave;
+use crate::looks::is_unfinished;
 use crate::opening::open_sites;
-use crate::places::{may_play, sent_of};
-use crate::replaying::are_finished;
 use crate::sites::Sites;
-use abstract_log::{Event, Left, Run, Script, StageLine, StageLog, Step, Workload};
-use cz_base::{DcId, NoMemory, Seq};
+use abstract_log::{Event, Left, Outcome, Run, Script, StageLine, StageLog, Step, Workload};
+use cz_base::{NoMemory, Seq};
 use std::alloc::Global;
 use std::marker::Model;
 
@@ -27,9 +27,9 @@ pub struct Played {
 /// each later turn.
 #[derive(Drop)]
 pub struct Stages {
-    workload: Workload,
-    sites: Sites,
-    events: Seq<Event>,
+    pub(crate) workload: Workload,
+    pub(crate) sites: Sites,
+    pub(crate) events: Seq<Event>,
     lines: StageLog,
     failed: bool,
 }
@@ -46,7 +46,8 @@ impl Model for Stages {
 }
 
 impl Stages {
-    ghost use Rattle.world.specs.Taking.{HasGoneOn, HasTaken, IsPlayed, Taken, events_after};
+    ghost use Rattle.stage_world.specs.Settling.{is_unfinished};
+    ghost use Rattle.world.specs.Taking.{HasTaken, IsPlayed, Taken, events_after, stages_after};
 
     /// The stages as a script opens them. Its steps are not taken yet.
     pub fn start(alloc: Global, script: &Script) -> Result<Self, NoMemory>
@@ -79,7 +80,7 @@ impl Stages {
         self.take(step, false)
     }
 
-    // Takes one turn, and writes its line and its events.
+    // Takes one turn, and writes its line and its events; an idle turn of settling has no line.
     pub(crate) fn take(&mut self, step: &Step, settling: bool) -> Result<(), NoMemory>
         requires step { IsStep self.old.workload step.now }
         requires built { IsBuiltStep step.now }
@@ -94,78 +95,18 @@ impl Stages {
         }
         self.failed = true;
         let done = self.sites.step(&self.workload, step)?;
-        self.lines.push(StageLine {
-            step: *step,
-            outcome: done.outcome,
-            settling,
-        })?;
+        write_line(&mut self.lines, step, done.outcome, settling, done.changed)?;
         self.events.append(done.events)?;
         self.failed = false;
         Ok(())
     }
 
-    /// Takes a turn of settling, where the step is one that may be taken.
-    pub(crate) fn play(&mut self, step: &Step) -> Result<(), NoMemory>
-        ensures goes_on { OnOk result (HasGoneOn self.old self.new) }
-    {
-        if !may_play(&self.workload, step) {
-            return Ok(());
-        }
-        self.take(step, true)
-    }
-
-    /// How many datacentres there are.
-    pub(crate) fn dcs(&self) -> u32 {
-        self.workload.dcs
-    }
-
-    /// How many sessions there are.
-    pub(crate) fn sessions(&self) -> usize {
-        self.workload.sessions.len()
-    }
-
-    /// Whether session s is at datacentre d.
-    pub(crate) fn is_home(&self, s: u32, d: DcId) -> bool {
-        match self.workload.sessions.get(s as usize) {
-            Some(plan) => plan.home == d,
-            None => false,
-        }
-    }
-
-    /// Whether a session of datacentre d has a command that is not answered.
-    pub(crate) fn waits(&self, d: DcId) -> bool {
-        match self.sites.datacentres.get(d.number() as usize) {
-            Some(datacentre) => datacentre.unanswered(),
-            None => false,
-        }
-    }
-
-    /// Whether datacentres d and e have as many records of each.
-    pub(crate) fn agree(&self, d: DcId, e: DcId) -> bool {
-        let datacentres = &self.sites.datacentres;
-        match (
-            datacentres.get(d.number() as usize),
-            datacentres.get(e.number() as usize),
-        ) {
-            (Some(one), Some(other)) => one.log_counts() == other.log_counts(),
-            _ => true,
-        }
-    }
-
-    /// How many packets the last turn found in the link, where it sent.
-    pub(crate) fn last_sent(&self) -> Option<u32> {
-        let lines = self.lines.as_slice();
-        match lines.last() {
-            Some(line) => sent_of(&line.outcome),
-            None => None,
-        }
-    }
-
-    // Whether every command is answered and each log has all records.
+    /// Whether every command is answered and each log has all records.
     pub(crate) fn is_finished(&self) -> bool
-        ensures { (script : ScriptValue) (ts : List Taken) → HasTaken script ts self.now → IsTrue result → IsFinished (world_of script.workload (events_after script ts)) }
+        ensures exact { (script : ScriptValue) (ts : List Taken) → HasTaken script ts self.now → result ≡ not (is_unfinished (stages_after script ts)) }
+        ensures finished { (script : ScriptValue) (ts : List Taken) → HasTaken script ts self.now → IsTrue result → IsFinished (world_of script.workload (events_after script ts)) }
     {
-        are_finished(&self.sites.datacentres)
+        !is_unfinished(&self.sites.datacentres)
     }
 
     /// What was written, the run and a line for each turn; and what the run leaves, which is moved out of the stages.
@@ -186,4 +127,24 @@ impl Stages {
             left,
         })
     }
+}
+
+// Writes the line of a turn, but for one of settling that changed nothing.
+fn write_line(
+    lines: &mut StageLog,
+    step: &Step,
+    outcome: Outcome,
+    settling: bool,
+    changed: bool,
+) -> Result<(), NoMemory>
+    ensures { OnOk result (lines.new ≡ lines.old ++ lines_told step.now outcome settling changed) }
+{
+    if changed || !settling {
+        lines.push(StageLine {
+            step: *step,
+            outcome,
+            settling,
+        })?;
+    }
+    Ok(())
 }

@@ -19,8 +19,8 @@ returns-clause-stages c =
       receivers = c.args.sizes.now.receivers;
       table = c.new.result;
       learnt = 0;
-      floor = c.new-floor.result;
-      collected = c.new-collected.result;
+      floor = c.new-2.result;
+      collected = c.new-3.result;
     }) (record {
       here = refl;
       first = refl;
@@ -37,8 +37,8 @@ returns-clause-stages c =
       receivers = refl;
       table = c.new.ensures;
       learnt = refl;
-      floor = c.new-floor.ensures;
-      collected = c.new-collected.ensures;
+      floor = c.new-2.ensures;
+      collected = c.new-3.ensures;
     }) c.in_ok-epochs.ensures c.in_ok-map.ensures
 
 pub returns-clause-whole : goal.returns-clause-whole
@@ -58,8 +58,8 @@ returns-clause-whole c =
       receivers = c.args.sizes.now.receivers;
       table = c.new.result;
       learnt = 0;
-      floor = c.new-floor.result;
-      collected = c.new-collected.result;
+      floor = c.new-2.result;
+      collected = c.new-3.result;
     }) (record {
       here = refl;
       first = refl;
@@ -76,6 +76,6 @@ returns-clause-whole c =
       receivers = refl;
       table = c.new.ensures;
       learnt = refl;
-      floor = c.new-floor.ensures;
-      collected = c.new-collected.ensures;
+      floor = c.new-2.ensures;
+      collected = c.new-3.ensures;
     })

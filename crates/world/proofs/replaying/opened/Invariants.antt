@@ -1,6 +1,5 @@
 use Rattle.std.proofs.Common.{take}
-use Rattle.world.specs.Finishing.{taken_of}
-use Rattle.world.specs.Taking.{HasTaken}
+use Rattle.world.specs.Taking.{HasTaken, taken_of}
 use Rattle.world.proofs.replaying.opened.Given as goal
 
 abbrev pub invariant-loop-step : goal.invariant-loop-step

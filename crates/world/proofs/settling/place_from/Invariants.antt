@@ -1,5 +1,0 @@
-use Rattle.world.specs.Taking.{HasGoneOn}
-use Rattle.world.proofs.settling.place_from.Given as goal
-
-abbrev pub invariant-loop-m : goal.invariant-loop-m
-invariant-loop-m l = HasGoneOn l.initial.stages l.stages

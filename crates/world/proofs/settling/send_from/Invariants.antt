@@ -1,5 +1,0 @@
-use Rattle.world.specs.Taking.{HasGoneOn}
-use Rattle.world.proofs.settling.send_from.Given as goal
-
-abbrev pub invariant-loop-number : goal.invariant-loop-number
-invariant-loop-number l = HasGoneOn l.initial.stages l.stages
