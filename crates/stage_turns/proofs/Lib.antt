@@ -11,6 +11,7 @@ pub mod FlushMay
 pub mod ShelfLemmas
 pub mod ClientMay
 pub mod ClientIs
+pub mod SessionChanges
 pub mod PlacingLemmas
 pub mod PostingLemmas
 pub mod PostingTurns
@@ -21,3 +22,4 @@ pub mod NewsLemmas
 pub mod ToldLemmas
 pub mod CollectingLemmas
 pub mod CollectTurns
+pub mod SessionIs
