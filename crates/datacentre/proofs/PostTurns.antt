@@ -44,7 +44,7 @@ post_is p m i x x' y y' done may in_m in_i is_x is_y same new outcome events cha
     (ap₂ (λ a b. a && b) (lt-ltb m (length p.maintainers) in_m) (lt-ltb i (length p.indexers) in_i)) (record {
       stages = ap₂ (λ ms (is : List IndexerState). record z { maintainers = maintainers_seen ms; indexers = is }) left indexers;
       here = refl;
-      whole = record { token = may.whole.token; table = may.whole.table; senders = may.whole.senders; pins = may.whole.pins };
+      whole = record { token = may.whole.token; table = may.whole.table; senders = may.whole.senders; pins = may.whole.pins; many = may.whole.many };
       outcome = outcome ∙ ap (λ (n : IndexerState). Covered (head n.pair)) (now ∙ sym (get_or-set_same p.indexers i (posted_to (indexer_at p.indexers i) (maintainer_at z.maintainers m) m) no_indexer in_i));
       events = events;
       changed = told_of z turned.after done.changed (nat_lt (mark_at (indexer_at z.indexers i).pair m) (post_mark (maintainer_at z.maintainers m) (mark_at (indexer_at z.indexers i).pair m))) (changed ∙ mark) (post_tells z m i in_i small may_z);
