@@ -13,6 +13,8 @@ pub mod ClientMay
 pub mod ClientIs
 pub mod SessionChanges
 pub mod PlacingLemmas
+pub mod PostingLemmas
+pub mod PostingTurns
 pub mod LearningLemmas
 pub mod TellingLemmas
 pub mod StockLemmas
@@ -20,3 +22,4 @@ pub mod NewsLemmas
 pub mod ToldLemmas
 pub mod CollectingLemmas
 pub mod CollectTurns
+pub mod SessionIs
