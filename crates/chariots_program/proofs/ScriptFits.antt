@@ -57,14 +57,14 @@ built_step (Stamp d q) built = tt
 built_step (Token d) built = tt
 built_step (Place d q m) built = tt
 built_step (Gossip d m k) built = tt
-built_step (Post d m i) built = absurd built
+built_step (Post d m i) built = tt
 built_step (Learn d) built = tt
 built_step (Send d k e) built = tt
 built_step (Deliver d e k r) built = tt
 built_step (Lose d e k) built = tt
 built_step (Copy d e k) built = tt
-built_step (Floor d p) built = absurd built
-built_step (Collect d m) built = absurd built
+built_step (Floor d p) built = tt
+built_step (Collect d m) built = tt
 built_step (Announce d h t) built = absurd built
 built_step (Mark d) built = absurd built
 built_step (AddMaintainer d p) built = absurd built
@@ -81,10 +81,10 @@ all_steps_built (t ∷ more) built =
 built_command : (command : Command) → IsReadCommand command → IsBuiltCommand command
 built_command (Append tags body) built = tt
 built_command (Put key body) built = tt
-built_command (Get key) built = absurd built
-built_command (Tx keys) built = absurd built
+built_command (Get key) built = tt
+built_command (Tx keys) built = tt
 built_command (Read lid) built = tt
-built_command (Last tag n) built = absurd built
+built_command (Last tag n) built = tt
 
 commands_built : (commands : List Command) → All IsReadCommand commands → All IsBuiltCommand commands
 commands_built [] built = All-nil IsBuiltCommand

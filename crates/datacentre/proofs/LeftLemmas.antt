@@ -1,5 +1,5 @@
 -- What parts leave is what each world leaves for which they stand.
-use Rattle.std.proofs.Common.{◌≡◌, ℕ, zero, suc, ◌+◌, ◌<◌, ◌≤◌, cond, true, false, Bool, List, [], ◌∷◌, ◌++◌, length, map, take, get_or, set, refl, ap, ap₂, sym, ◌∙◌, subst, arith, add-one, append-nil}
+use Rattle.std.proofs.Common.{◌≡◌, ℕ, zero, suc, ◌+◌, ◌<◌, ◌≤◌, cond, true, false, Bool, List, [], ◌∷◌, ◌++◌, length, map, take, get_or, set, refl, ap, ap₂, sym, ◌∙◌, subst, arith, add-one, append-nil, Result, Ok, Err, IfOk}
 use Rattle.std.specs.List.{flat_map, fold}
 use Rattle.std.proofs.lemmas.List.{get_or-set_other, length-set, take_all}
 use Rattle.std.proofs.lemmas.List.Sums.{fold-append}
@@ -20,6 +20,7 @@ use Rattle.stage_world.specs.Stages.{slot_of}
 use Rattle.stage_world.specs.StandsFor.{StandsAt}
 use Rattle.stage_world.proofs.LeavingLemmas.{rows_are}
 use Rattle.stage_turns.specs.Lent.{maintainers_seen, queues_seen, token_seen}
+use Rattle.datacentre.specs.declared.leaving.Remains.{Remains}
 use Rattle.datacentre.specs.declared.parts.Parts.{Parts}
 use Rattle.datacentre.specs.Leaving.{IsLeftBy, IsLeftByParts}
 use Rattle.datacentre.specs.Seen.{DatacentreState, seen, state_of}
@@ -37,12 +38,16 @@ kept_seen (m ∷ ms) = ap (λ ss. m.entries ++ ss) (kept_seen ms)
 rows_seen : (n : ℕ) (qs : List QueueState) (ms : List (MaintainerState Record)) (places : List Place) → rows_told n qs ms places ≡ rows_told n (queues_seen qs) (maintainers_seen ms) places
 rows_seen n qs ms places = ap₂ (λ (a : List (Slot Record)) (b : List (Slot Record)). fold with_place (fold with_slot (fold with_slot (blank_rows n) a) b) places) (waiting_seen qs) (kept_seen ms)
 
-pub left_is : (p : Parts) (n : ℕ) (rows : List Row) (table : List (List ℕ)) → n ≡ (token_seen p.queues).last → rows ≡ rows_told n p.queues p.maintainers p.collected → table ≡ p.table.table
+left_is : (p : Parts) (n : ℕ) (rows : List Row) (table : List (List ℕ)) → n ≡ (token_seen p.queues).last → rows ≡ rows_told n p.queues p.maintainers p.collected → table ≡ p.table.table
     → IsLeftByParts p (record { rows = rows; table = table })
 left_is p n rows table count told known w stands = λ i. record {
   rows = (told ∙ ap (λ k. rows_told k p.queues p.maintainers p.collected) count ∙ rows_seen (token_seen p.queues).last p.queues p.maintainers p.collected ∙ rows_are w p.dc (seen p) stands) i;
   table = (known ∙ stands.aware.same) i;
 }
+
+pub left_with : (p : Parts) (r : Remains) (n : ℕ) (rows : List Row) → r ≡ record { queues = p.queues; maintainers = p.maintainers; collected = p.collected; table = p.table.table }
+    → n ≡ (token_seen p.queues).last → rows ≡ rows_told n r.queues r.maintainers r.collected → IsLeftByParts p (record { rows = rows; table = r.table })
+left_with p r n rows is count told = left_is p n rows r.table count (told ∙ ap (λ (x : Remains). rows_told n x.queues x.maintainers x.collected) is) (ap (λ (x : Remains). x.table) is)
 
 -- the outboxes of a queue, one after another
 
@@ -73,7 +78,7 @@ one_taken start now next queue left after m entries few all out is put h =
     }
 
 pub all_taken : (start now : List Row) (queue left : QueueState) (m : ℕ) → m ≡ 16 → AreTaken start now queue left m → now ≡ fold with_slot start (slots_in queue.outboxes)
-all_taken start now queue left m end h = h.rows ∙ ap (λ (os : List (List Entry)). fold with_slot start (slots_in os)) (take_all queue.outboxes m (omega (arith, end, h.size (omega (arith, end)))))
+all_taken start now queue left m end h = h.rows ∙ ap (λ (os : List (List Entry)). fold with_slot start (slots_in os)) (take_all m queue.outboxes (omega (arith, end, h.size (omega (arith, end)))))
 
 -- the first of what is still to come
 
@@ -95,5 +100,6 @@ one_place start now next xs i x was is within at =
     is ∙ ap (λ r. with_place r x) was ∙ sym (fold-append with_place start (take i xs) (x ∷ [])) ∙ ap (fold with_place start) (sym more)
 
 -- a datacentre that has not failed leaves what its parts do
-pub left_by : (failed : Bool) (p : Parts) (s : DatacentreState) (left : LeftAt) → state_of failed p ≡ s → failed ≡ false → IsLeftByParts p left → IsLeftBy s left
-left_by failed p s left view works is = subst (λ (x : DatacentreState). IsLeftBy x left) view (subst (λ b. IsLeftBy (state_of b p) left) (sym works) is)
+pub left_by : {E : Type 0} (failed : Bool) (p : Parts) (s : DatacentreState) (result : Result LeftAt E) → state_of failed p ≡ s → failed ≡ false → IfOk result (IsLeftByParts p) → IfOk result (IsLeftBy s)
+left_by failed p s (Ok left) view works is = subst (λ (x : DatacentreState). IsLeftBy x left) view (subst (λ b. IsLeftBy (state_of b p) left) (sym works) is)
+left_by failed p s (Err e) view works is = tt

@@ -22,11 +22,11 @@ use Rattle.script_text.specs.declared.fault.ScriptFault.{ScriptFault}
 use Rattle.script_text.specs.declared.fault.ScriptFault.TheVariants as fault
 use Rattle.script_text.specs.declared.keyword.Keyword.{Keyword}
 use Rattle.script_text.specs.declared.keyword.Keyword.TheVariants.{Chariots, Datacentres, Round, Stages, Session, Command as CommandLine, Steps, Turn, End}
-use Rattle.script_text.specs.declared.keyword.CommandWord.TheVariants.{Append, Put, Read}
+use Rattle.script_text.specs.declared.keyword.CommandWord.TheVariants.{Append, Put, Get, Tx, Read, Last}
 use Rattle.script_text.specs.declared.keyword.TurnWord.{TurnWord}
 use Rattle.script_text.specs.declared.keyword.TurnWord.TheVariants as turn
 use Rattle.script_text.specs.declared.arguments.Argument.{Argument}
-use Rattle.script_text.specs.declared.arguments.Argument.TheVariants.{Datacentre, Other, Session as SessionNumber, Member, Second, Packet}
+use Rattle.script_text.specs.declared.arguments.Argument.TheVariants.{Datacentre, Other, Session as SessionNumber, Member, Second, Packet, Position}
 use Rattle.script_text.specs.declared.arguments.Arguments.{Arguments}
 use Rattle.script_text.specs.declared.section.Section.{Section}
 use Rattle.script_text.specs.declared.section.Section.TheVariants as section
@@ -36,9 +36,9 @@ use Rattle.script_text.specs.Words.{is_digit, is_number, number_of, is_datacentr
 use Rattle.script_text.specs.Reading.{◌>>=◌, number_in, number_at, number_below_at, datacentre_at, other_datacentre_at, body_at, name_at, names_in}
 use Rattle.script_text.specs.Arguments.{no_arguments, argument_at, arguments_at, step_said}
 use Rattle.script_text.specs.Keywords.{text_of, turn_text, keyword_of, stands, is_built, turn_is_built, turn_arguments, least_words, most_words, is_stages, is_sessions, is_ended}
-use Rattle.script_text.specs.Meaning.{start, chariots_line, datacentres_line, round_line, sizes_at, stages_line, session_line, with_command, append_line, put_line, read_line, with_step, turn_line, meaning, keyword_after, words_after, is_passed_over, line_after, is_given, script_said, told, next_number, script_from, script_of}
-use Rattle.abstract_log.specs.Fits.{IsSize, FitsCommand, FitsPlan, commands_of}
-use Rattle.script_text.specs.Spelled.{letter, command_words, plan_lines, stages_words, first_words, datacentres_words, round_words, before_steps, turn_words, steps_words, end_words, said_words, IsBuiltSizes, IsBuiltCommand, IsBuiltStep, AreGivenOnce, IsBuiltStages, IsWritten}
+use Rattle.script_text.specs.Meaning.{start, chariots_line, datacentres_line, round_line, sizes_at, stages_line, session_line, with_command, append_line, put_line, get_line, tx_line, read_line, last_line, with_step, turn_line, meaning, keyword_after, words_after, is_passed_over, line_after, is_given, script_said, told, next_number, script_from, script_of}
+use Rattle.abstract_log.specs.Fits.{IsSize, FitsSizes, FitsCommand, FitsPlan, commands_of}
+use Rattle.script_text.specs.Spelled.{letter, command_words, plan_lines, stages_words, first_words, datacentres_words, round_words, before_steps, turn_words, steps_words, end_words, said_words, IsBuiltCommand, IsBuiltStep, AreGivenOnce, FitsStages, IsWritten}
 use Rattle.script_text.proofs.MeaningLemmas.{with_command-last}
 use Rattle.script_text.specs.Steps.{FitsStep}
 use Rattle.script_text.proofs.Going.{okay, or_false}
@@ -227,9 +227,21 @@ put_word : keyword_of (codes "put") ≡ Some (CommandLine Put)
 unfolding keyword_of text_of
 put_word = refl
 
+get_word : keyword_of (codes "get") ≡ Some (CommandLine Get)
+unfolding keyword_of text_of
+get_word = refl
+
+tx_word : keyword_of (codes "tx") ≡ Some (CommandLine Tx)
+unfolding keyword_of text_of
+tx_word = refl
+
 read_word : keyword_of (codes "read") ≡ Some (CommandLine Read)
 unfolding keyword_of text_of
 read_word = refl
+
+last_word : keyword_of (codes "last") ≡ Some (CommandLine Last)
+unfolding keyword_of text_of
+last_word = refl
 
 steps_word : keyword_of (codes "steps") ≡ Some Steps
 unfolding keyword_of text_of
@@ -283,52 +295,49 @@ round_takes dcs round low high = record {
   means = word_reads (said_at section.Round dcs 0 [] [] 0) (codes "round") (decimal round ∷ []) Round round_word refl refl refl ∙ round_means (said_at section.Round dcs 0 [] [] 0) round low high;
 }
 
-one_reads : (n : ℕ) (more : List (List ℕ)) → n ≡ 1 → number_at 1 1 (decimal n ∷ more) ≡ Ok (n, more)
-one_reads n more one = decimal_reads 1 1 n more (omega arith) (omega arith) (omega arith)
-
 size_reads : (n : ℕ) (more : List (List ℕ)) → IsSize n → number_at 1 16 (decimal n ∷ more) ≡ Ok (n, more)
 size_reads n more size = decimal_reads 1 16 n more size.0 size.1 (omega arith)
 
 abbrev sizes_words : Sizes → List (List ℕ)
 sizes_words s = decimal s.batchers ∷ decimal s.filters ∷ decimal s.queues ∷ decimal s.maintainers ∷ decimal s.indexers ∷ decimal s.senders ∷ decimal s.receivers ∷ []
 
-sizes_read : (s : Sizes) → IsBuiltSizes s → sizes_at (sizes_words s) ≡ Ok (s, [])
+sizes_read : (s : Sizes) → FitsSizes s → sizes_at (sizes_words s) ≡ Ok (s, [])
 unfolding sizes_at
-sizes_read s built =
+sizes_read s fits =
     rw (
-      size_reads s.batchers (decimal s.filters ∷ decimal s.queues ∷ decimal s.maintainers ∷ decimal s.indexers ∷ decimal s.senders ∷ decimal s.receivers ∷ []) built.batchers,
-      size_reads s.filters (decimal s.queues ∷ decimal s.maintainers ∷ decimal s.indexers ∷ decimal s.senders ∷ decimal s.receivers ∷ []) built.filters,
-      size_reads s.queues (decimal s.maintainers ∷ decimal s.indexers ∷ decimal s.senders ∷ decimal s.receivers ∷ []) built.queues,
-      size_reads s.maintainers (decimal s.indexers ∷ decimal s.senders ∷ decimal s.receivers ∷ []) built.maintainers,
-      one_reads s.indexers (decimal s.senders ∷ decimal s.receivers ∷ []) built.indexers,
-      size_reads s.senders (decimal s.receivers ∷ []) built.senders,
-      size_reads s.receivers [] built.receivers,
+      size_reads s.batchers (decimal s.filters ∷ decimal s.queues ∷ decimal s.maintainers ∷ decimal s.indexers ∷ decimal s.senders ∷ decimal s.receivers ∷ []) fits.batchers,
+      size_reads s.filters (decimal s.queues ∷ decimal s.maintainers ∷ decimal s.indexers ∷ decimal s.senders ∷ decimal s.receivers ∷ []) fits.filters,
+      size_reads s.queues (decimal s.maintainers ∷ decimal s.indexers ∷ decimal s.senders ∷ decimal s.receivers ∷ []) fits.queues,
+      size_reads s.maintainers (decimal s.indexers ∷ decimal s.senders ∷ decimal s.receivers ∷ []) fits.maintainers,
+      size_reads s.indexers (decimal s.senders ∷ decimal s.receivers ∷ []) fits.indexers,
+      size_reads s.senders (decimal s.receivers ∷ []) fits.senders,
+      size_reads s.receivers [] fits.receivers,
     ) refl
 
-full_sizes : (s : Sizes) → IsBuiltSizes s → list_any is_empty_word (sizes_words s) ≡ false
-full_sizes s built =
-    full_decimal s.batchers (decimal s.filters ∷ decimal s.queues ∷ decimal s.maintainers ∷ decimal s.indexers ∷ decimal s.senders ∷ decimal s.receivers ∷ []) (omega (arith, built.batchers.1))
-    (full_decimal s.filters (decimal s.queues ∷ decimal s.maintainers ∷ decimal s.indexers ∷ decimal s.senders ∷ decimal s.receivers ∷ []) (omega (arith, built.filters.1))
-    (full_decimal s.queues (decimal s.maintainers ∷ decimal s.indexers ∷ decimal s.senders ∷ decimal s.receivers ∷ []) (omega (arith, built.queues.1))
-    (full_decimal s.maintainers (decimal s.indexers ∷ decimal s.senders ∷ decimal s.receivers ∷ []) (omega (arith, built.maintainers.1))
-    (full_decimal s.indexers (decimal s.senders ∷ decimal s.receivers ∷ []) (omega (arith, built.indexers))
-    (full_decimal s.senders (decimal s.receivers ∷ []) (omega (arith, built.senders.1))
-    (full_decimal s.receivers [] (omega (arith, built.receivers.1)) refl))))))
+full_sizes : (s : Sizes) → FitsSizes s → list_any is_empty_word (sizes_words s) ≡ false
+full_sizes s fits =
+    full_decimal s.batchers (decimal s.filters ∷ decimal s.queues ∷ decimal s.maintainers ∷ decimal s.indexers ∷ decimal s.senders ∷ decimal s.receivers ∷ []) (omega (arith, fits.batchers.1))
+    (full_decimal s.filters (decimal s.queues ∷ decimal s.maintainers ∷ decimal s.indexers ∷ decimal s.senders ∷ decimal s.receivers ∷ []) (omega (arith, fits.filters.1))
+    (full_decimal s.queues (decimal s.maintainers ∷ decimal s.indexers ∷ decimal s.senders ∷ decimal s.receivers ∷ []) (omega (arith, fits.queues.1))
+    (full_decimal s.maintainers (decimal s.indexers ∷ decimal s.senders ∷ decimal s.receivers ∷ []) (omega (arith, fits.maintainers.1))
+    (full_decimal s.indexers (decimal s.senders ∷ decimal s.receivers ∷ []) (omega (arith, fits.indexers.1))
+    (full_decimal s.senders (decimal s.receivers ∷ []) (omega (arith, fits.senders.1))
+    (full_decimal s.receivers [] (omega (arith, fits.receivers.1)) refl))))))
 
-stages_means : (said : Progress) (given : StagesOf) → given.dc < said.dcs → said.dcs ≤ 8 → IsBuiltSizes given.sizes → is_given said.stages given.dc ≡ false
+stages_means : (said : Progress) (given : StagesOf) → given.dc < said.dcs → said.dcs ≤ 8 → FitsSizes given.sizes → is_given said.stages given.dc ≡ false
     → stages_line said (letter given.dc ∷ sizes_words given.sizes) ≡ Ok (record said { stages = said.stages ++ given ∷ [] })
 unfolding stages_line
-stages_means said given within few built new =
-    rw (datacentre_reads said.dcs given.dc (sizes_words given.sizes) within few, sizes_read given.sizes built)
+stages_means said given within few fits new =
+    rw (datacentre_reads said.dcs given.dc (sizes_words given.sizes) within few, sizes_read given.sizes fits)
     (passed (is_given said.stages given.dc) (Err GivenTwice) (Ok (record said { stages = said.stages ++ given ∷ [] })) new)
 
-stages_takes : (dcs round : ℕ) (front : List StagesOf) (given : StagesOf) → dcs ≤ 8 → IsBuiltStages dcs given → is_given front given.dc ≡ false
+stages_takes : (dcs round : ℕ) (front : List StagesOf) (given : StagesOf) → dcs ≤ 8 → FitsStages dcs given → is_given front given.dc ≡ false
     → Takes (said_at section.Stages dcs round front [] 0) (stages_words given) (said_at section.Stages dcs round (front ++ given ∷ []) [] 0)
-stages_takes dcs round front given few built new = record {
-  full = full (codes "stages") (letter given.dc ∷ sizes_words given.sizes) (omega arith) (full (letter given.dc) (sizes_words given.sizes) (omega arith) (full_sizes given.sizes built.sizes));
+stages_takes dcs round front given few fits new = record {
+  full = full (codes "stages") (letter given.dc ∷ sizes_words given.sizes) (omega arith) (full (letter given.dc) (sizes_words given.sizes) (omega arith) (full_sizes given.sizes fits.sizes));
   going = refl;
   means = word_reads (said_at section.Stages dcs round front [] 0) (codes "stages") (letter given.dc ∷ sizes_words given.sizes) Stages stages_word refl refl refl
-      ∙ stages_means (said_at section.Stages dcs round front [] 0) given built.dc few built.sizes new;
+      ∙ stages_means (said_at section.Stages dcs round front [] 0) given fits.dc few fits.sizes new;
 }
 
 not_ended : (here : Section) → (is_stages here || is_sessions here) ≡ true → is_ended here ≡ false
@@ -372,6 +381,18 @@ put_means : (said : Progress) (key body : List ℕ) → IsName key → IsBody bo
 unfolding put_line
 put_means said key body named fits = rw (name_reads key ((61 ∷ body) ∷ []) named, body_reads body [] fits) refl
 
+get_means : (said : Progress) (key : List ℕ) → IsName key → get_line said (key ∷ []) ≡ with_command said (command.Get key)
+unfolding get_line
+get_means said key named = rw (name_reads key [] named) refl
+
+tx_means : (said : Progress) (keys : List (List ℕ)) → All IsName keys → tx_line said keys ≡ with_command said (command.Tx keys)
+unfolding tx_line
+tx_means said keys named = rw (names_read keys named) refl
+
+last_means : (said : Progress) (tag : List ℕ) (n : ℕ) → IsName tag → 1 ≤ n → n ≤ 64 → last_line said (tag ∷ decimal n ∷ []) ≡ with_command said (command.Last tag n)
+unfolding last_line
+last_means said tag n named low high = rw (name_reads tag (decimal n ∷ []) named, decimal_reads 1 64 n [] low high (omega arith)) refl
+
 -- a line of a command says the command
 pub record Says (said : Progress) (c : Command) : Type 0 where
   pub full : list_any is_empty_word (command_words c) ≡ false
@@ -391,14 +412,29 @@ command_says said (command.Put key body) here fits built = record {
   means = word_reads said (codes "put") (key ∷ (61 ∷ body) ∷ []) (CommandLine Put) put_word (ap (λ (s : Section). is_sessions s) here) refl refl
       ∙ put_means said key body fits.0 fits.1;
 }
-command_says said (command.Get key) here fits built = absurd built
-command_says said (command.Tx keys) here fits built = absurd built
+command_says said (command.Get key) here fits built = record {
+  full = full (codes "get") (key ∷ []) (omega arith) (full key [] (omega (arith, fits.not_empty)) refl);
+  means = word_reads said (codes "get") (key ∷ []) (CommandLine Get) get_word (ap (λ (s : Section). is_sessions s) here) refl refl
+      ∙ get_means said key fits;
+}
+command_says said (command.Tx keys) here fits built =
+    let least : nat_lt (length keys) 1 ≡ false = grind (arith, nat_tests, fits.0) in
+    let most : nat_lt 16 (length keys) ≡ false = grind (arith, nat_tests, fits.1.0) in
+    record {
+      full = full (codes "tx") keys (omega arith) (full_names keys fits.1.1);
+      means = word_reads said (codes "tx") keys (CommandLine Tx) tx_word (ap (λ (s : Section). is_sessions s) here) refl (neither_true (nat_lt (length keys) 1) (nat_lt 16 (length keys)) least most)
+          ∙ tx_means said keys fits.1.1;
+    }
 command_says said (command.Read lid) here fits built = record {
   full = full (codes "read") (decimal lid ∷ []) (omega arith) (full_decimal lid [] (omega (arith, fits.1)) refl);
   means = word_reads said (codes "read") (decimal lid ∷ []) (CommandLine Read) read_word (ap (λ (s : Section). is_sessions s) here) refl refl
       ∙ read_means said lid fits.0 (omega (arith, fits.1));
 }
-command_says said (command.Last tag n) here fits built = absurd built
+command_says said (command.Last tag n) here fits built = record {
+  full = full (codes "last") (tag ∷ decimal n ∷ []) (omega arith) (full tag (decimal n ∷ []) (omega (arith, fits.0.not_empty)) (full_decimal n [] (omega (arith, fits.1.1)) refl));
+  means = word_reads said (codes "last") (tag ∷ decimal n ∷ []) (CommandLine Last) last_word (ap (λ (s : Section). is_sessions s) here) refl refl
+      ∙ last_means said tag n fits.0 fits.1.0 fits.1.1;
+}
 
 abbrev with_plan : List SessionPlan → ℕ → List Command → List SessionPlan
 with_plan front home commands = front ++ record { home = home; commands = commands } ∷ []
@@ -452,6 +488,7 @@ argument_reads dcs sessions given SessionNumber n more few room range = rw (belo
 argument_reads dcs sessions given Member n more few room range = rw (below_reads 16 n more range (omega arith)) refl
 argument_reads dcs sessions given Second n more few room range = rw (below_reads 16 n more range (omega arith)) refl
 argument_reads dcs sessions given Packet n more few room range = rw (decimal_reads 1 64 n more range.0 range.1 (omega arith)) refl
+argument_reads dcs sessions given Position n more few room range = rw (decimal_reads 1 4294967295 n more range.0 (omega (arith, range.1)) (omega arith)) refl
 
 arguments_read : (dcs sessions : ℕ) (given : Arguments) (kinds : List Argument) (left : List (List ℕ)) (after : Arguments) → dcs ≤ 8 → sessions ≤ 64 → Write dcs sessions given kinds left after
     → arguments_at dcs sessions given kinds left ≡ okay after
@@ -468,6 +505,7 @@ argument_full dcs sessions given SessionNumber n room range = decimal_nonempty n
 argument_full dcs sessions given Member n room range = decimal_nonempty n (omega (arith, range))
 argument_full dcs sessions given Second n room range = decimal_nonempty n (omega (arith, range))
 argument_full dcs sessions given Packet n room range = decimal_nonempty n (omega (arith, range.1))
+argument_full dcs sessions given Position n room range = decimal_nonempty n (omega (arith, range.1))
 
 arguments_full : (dcs sessions : ℕ) (given : Arguments) (kinds : List Argument) (left : List (List ℕ)) (after : Arguments) → sessions ≤ 64 → Write dcs sessions given kinds left after → list_any is_empty_word left ≡ false
 arguments_full dcs sessions given [] left after room w = ap (λ (ws : List (List ℕ)). list_any is_empty_word ws) w.0
@@ -503,6 +541,10 @@ gossip_word : keyword_of (codes "gossip") ≡ Some (Turn turn.Gossip)
 unfolding keyword_of text_of
 gossip_word = refl
 
+post_word : keyword_of (codes "post") ≡ Some (Turn turn.Post)
+unfolding keyword_of text_of
+post_word = refl
+
 learn_word : keyword_of (codes "learn") ≡ Some (Turn turn.Learn)
 unfolding keyword_of text_of
 learn_word = refl
@@ -522,6 +564,14 @@ lose_word = refl
 copy_word : keyword_of (codes "copy") ≡ Some (Turn turn.Copy)
 unfolding keyword_of text_of
 copy_word = refl
+
+floor_word : keyword_of (codes "floor") ≡ Some (Turn turn.Floor)
+unfolding keyword_of text_of
+floor_word = refl
+
+collect_word : keyword_of (codes "collect") ≡ Some (Turn turn.Collect)
+unfolding keyword_of text_of
+collect_word = refl
 
 -- what is written for a step: the word and what is given with it
 pub record Comes (load : Workload) (t : Step) : Type 0 where
@@ -621,7 +671,18 @@ step_comes load (step.Gossip d m k) fits built = record {
   writes = (d, (decimal m ∷ decimal k ∷ [], (refl, (fits.0, (m, (decimal k ∷ [], (refl, (fits.1.0, (k, ([], (refl, (fits.1.1, (refl, refl)))))))))))));
   says = refl;
 }
-step_comes load (step.Post d m i) fits built = absurd built
+step_comes load (step.Post d m i) fits built = record {
+  word = turn.Post;
+  left = letter d ∷ decimal m ∷ decimal i ∷ [];
+  given = record no_arguments { dc = d; member = m; second = i };
+  keyword = post_word;
+  words = refl;
+  some = omega arith;
+  many = refl;
+  built = refl;
+  writes = (d, (decimal m ∷ decimal i ∷ [], (refl, (fits.0, (m, (decimal i ∷ [], (refl, (fits.1.0, (i, ([], (refl, (fits.1.1, (refl, refl)))))))))))));
+  says = refl;
+}
 step_comes load (step.Learn d) fits built = record {
   word = turn.Learn;
   left = letter d ∷ [];
@@ -682,8 +743,30 @@ step_comes load (step.Copy d e k) fits built = record {
   writes = (d, (letter e ∷ decimal k ∷ [], (refl, (fits.0.first, (e, (decimal k ∷ [], (refl, ((fits.0.second, fits.0.apart), (k, ([], (refl, (fits.1, (refl, refl)))))))))))));
   says = refl;
 }
-step_comes load (step.Floor d p) fits built = absurd built
-step_comes load (step.Collect d m) fits built = absurd built
+step_comes load (step.Floor d p) fits built = record {
+  word = turn.Floor;
+  left = letter d ∷ decimal p ∷ [];
+  given = record no_arguments { dc = d; position = p };
+  keyword = floor_word;
+  words = refl;
+  some = omega arith;
+  many = refl;
+  built = refl;
+  writes = (d, (decimal p ∷ [], (refl, (fits.0, (p, ([], (refl, (fits.1, (refl, refl)))))))));
+  says = refl;
+}
+step_comes load (step.Collect d m) fits built = record {
+  word = turn.Collect;
+  left = letter d ∷ decimal m ∷ [];
+  given = record no_arguments { dc = d; member = m };
+  keyword = collect_word;
+  words = refl;
+  some = omega arith;
+  many = refl;
+  built = refl;
+  writes = (d, (decimal m ∷ [], (refl, (fits.0, (m, ([], (refl, (fits.1, (refl, refl)))))))));
+  says = refl;
+}
 step_comes load (step.Announce d h t) fits built = absurd built
 step_comes load (step.Mark d) fits built = absurd built
 step_comes load (step.AddMaintainer d p) fits built = absurd built
@@ -809,21 +892,21 @@ still_new front given (next ∷ later) new other =
     (is_given-push front given next.dc (All-head (IsNew front) next later new) (eq-sym next.dc given.dc both.0))
     (still_new front given later (All-tail (IsNew front) next later new) both.1)
 
-stages_lead : (dcs round : ℕ) (front left all : List StagesOf) → dcs ≤ 8 → All (IsBuiltStages dcs) left → AreGivenOnce left → All (IsNew front) left → front ++ left ≡ all
+stages_lead : (dcs round : ℕ) (front left all : List StagesOf) → dcs ≤ 8 → All (FitsStages dcs) left → AreGivenOnce left → All (IsNew front) left → front ++ left ≡ all
     → Leads (said_at section.Stages dcs round front [] 0) (map stages_words left) (said_at section.Stages dcs round all [] 0)
 stages_lead dcs round front [] all few built once new same =
     ap (λ (given : List StagesOf). said_at section.Stages dcs round given [] 0) (sym (append-nil front) ∙ same)
 stages_lead dcs round front (given ∷ more) all few built once new same = (
   said_at section.Stages dcs round (front ++ given ∷ []) [] 0,
   (
-    stages_takes dcs round front given few (All-head (IsBuiltStages dcs) given more built) (All-head (IsNew front) given more new),
-    stages_lead dcs round (front ++ given ∷ []) more all few (All-tail (IsBuiltStages dcs) given more built) once.1
+    stages_takes dcs round front given few (All-head (FitsStages dcs) given more built) (All-head (IsNew front) given more new),
+    stages_lead dcs round (front ++ given ∷ []) more all few (All-tail (FitsStages dcs) given more built) once.1
         (still_new front given more (All-tail (IsNew front) given more new) once.0) (append_assoc front (given ∷ []) more ∙ same),
   ),
 )
 
 -- all lines of a script, one after another
-all_lead : (dcs round : ℕ) (stages : List StagesOf) (plans : List SessionPlan) (steps : List Step) → 1 ≤ dcs → dcs ≤ 8 → 1 ≤ round → round ≤ 1024 → All (IsBuiltStages dcs) stages → AreGivenOnce stages
+all_lead : (dcs round : ℕ) (stages : List StagesOf) (plans : List SessionPlan) (steps : List Step) → 1 ≤ dcs → dcs ≤ 8 → 1 ≤ round → round ≤ 1024 → All (FitsStages dcs) stages → AreGivenOnce stages
     → All (FitsPlan dcs) plans → All IsBuiltPlan plans → length plans ≤ 64 → commands_of plans ≤ 16384 → All (FitsStep (record { dcs = dcs; sessions = plans })) steps → All IsBuiltStep steps → length steps ≤ 65536
     → Leads start (before_steps dcs round stages plans ++ closing steps) (ended_at dcs round stages plans (commands_of plans) steps)
 unfolding before_steps

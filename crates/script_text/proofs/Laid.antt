@@ -29,7 +29,7 @@ use Rattle.script_text.specs.declared.progress.Stages.{Stages as StagesOf}
 use Rattle.script_text.specs.Words.{words, is_line_byte, is_empty_word}
 use Rattle.script_text.specs.Reading.{number_at, datacentre_at, body_at, name_at, names_in}
 use Rattle.script_text.specs.Keywords.{text_of, turn_text, keywords, keyword_of, stands, is_built, turn_arguments, least_words, most_words, is_start, is_datacentres, is_round, is_stages, is_sessions, is_steps, is_ended}
-use Rattle.script_text.specs.Meaning.{start, chariots_line, datacentres_line, round_line, sizes_at, stages_line, session_line, onto_last, with_command, append_line, put_line, read_line, turn_line, command_meaning, meaning, keyword_after, words_after, is_passed_over, line_after, is_given, script_said, told, next_number, script_from, script_of}
+use Rattle.script_text.specs.Meaning.{start, chariots_line, datacentres_line, round_line, sizes_at, stages_line, session_line, onto_last, with_command, append_line, put_line, get_line, tx_line, read_line, last_line, turn_line, command_meaning, meaning, keyword_after, words_after, is_passed_over, line_after, is_given, script_said, told, next_number, script_from, script_of}
 use Rattle.script_text.specs.Spelled.{letter, command_words, plan_lines, stages_words, first_words, datacentres_words, round_words, before_steps, turn_words, steps_words, end_words, said_words, Spells, IsBuiltCommand, IsBuiltStep, IsWritten}
 use Rattle.script_text.specs.Steps.{FitsStep}
 use Rattle.abstract_log.specs.Fits.{FitsScript}
@@ -261,14 +261,14 @@ sizes_spell left x same =
     let two = bind_ok (number_at 1 16 one.0.1) _ x one.1.1 in
     let three = bind_ok (number_at 1 16 two.0.1) _ x two.1.1 in
     let four = bind_ok (number_at 1 16 three.0.1) _ x three.1.1 in
-    let five = bind_ok (number_at 1 1 four.0.1) _ x four.1.1 in
+    let five = bind_ok (number_at 1 16 four.0.1) _ x four.1.1 in
     let six = bind_ok (number_at 1 16 five.0.1) _ x five.1.1 in
     let seven = bind_ok (number_at 1 16 six.0.1) _ x six.1.1 in
     let a = (number_spells 1 16 left one.0 (lit< tt) one.1.0).word in
     let b = (number_spells 1 16 one.0.1 two.0 (lit< tt) two.1.0).word in
     let c = (number_spells 1 16 two.0.1 three.0 (lit< tt) three.1.0).word in
     let d = (number_spells 1 16 three.0.1 four.0 (lit< tt) four.1.0).word in
-    let e = (number_spells 1 1 four.0.1 five.0 (lit< tt) five.1.0).word in
+    let e = (number_spells 1 16 four.0.1 five.0 (lit< tt) five.1.0).word in
     let f = (number_spells 1 16 five.0.1 six.0 (lit< tt) six.1.0).word in
     let g = (number_spells 1 16 six.0.1 seven.0 (lit< tt) seven.1.0).word in
     let made : Sizes = record { batchers = one.0.0; filters = two.0.0; queues = three.0.0; maintainers = four.0.0; indexers = five.0.0; senders = six.0.0; receivers = seven.0.0 } in
@@ -375,6 +375,21 @@ put-lays said after left here few same =
     = first ∙ ap (λ (ws : List (List ℕ)). key.0.0 ∷ ws) (second ∙ ap (λ (ws : List (List ℕ)). (61 ∷ body.0.0) ∷ ws) (none_left body.0.1 none)) in
     command-lays said after (command.Put key.0.0 body.0.0) (codes "put" ∷ left) here (ap (λ (ws : List (List ℕ)). codes "put" ∷ ws) whole) body.1.1
 
+get-lays : (said after : Progress) (left : List (List ℕ)) → said.section ≡ section.Sessions → length left ≤ 1 → get_line said left ≡ Ok after → Lays said after (codes "get" ∷ left)
+unfolding get_line
+get-lays said after left here few same =
+    let key = bind_ok (name_at left) _ after same in
+    let first = name_spells left key.0 key.1.0 in
+    let none : length key.0.1 ≡ 0 = omega (arith, ap (λ (ws : List (List ℕ)). length ws) first, few) in
+    let whole : left ≡ key.0.0 ∷ [] = first ∙ ap (λ (ws : List (List ℕ)). key.0.0 ∷ ws) (none_left key.0.1 none) in
+    command-lays said after (command.Get key.0.0) (codes "get" ∷ left) here (ap (λ (ws : List (List ℕ)). codes "get" ∷ ws) whole) key.1.1
+
+tx-lays : (said after : Progress) (left : List (List ℕ)) → said.section ≡ section.Sessions → tx_line said left ≡ Ok after → Lays said after (codes "tx" ∷ left)
+unfolding tx_line
+tx-lays said after left here same =
+    let keys = bind_ok (names_in left) _ after same in
+    command-lays said after (command.Tx keys.0) (codes "tx" ∷ left) here (ap (λ (ws : List (List ℕ)). codes "tx" ∷ ws) (names_spell left keys.0 keys.1.0)) keys.1.1
+
 read-lays : (said after : Progress) (left : List (List ℕ)) → said.section ≡ section.Sessions → length left ≤ 1 → read_line said left ≡ Ok after → Lays said after (codes "read" ∷ left)
 unfolding read_line
 read-lays said after left here few same =
@@ -382,15 +397,26 @@ read-lays said after left here few same =
     let alone = one_number 1 4294967295 left lid.0 (lit< tt) few lid.1.0 in
     command-lays said after (command.Read lid.0.0) (codes "read" ∷ left) here (ap (λ (ws : List (List ℕ)). codes "read" ∷ ws) alone) lid.1.1
 
+last-lays : (said after : Progress) (left : List (List ℕ)) → said.section ≡ section.Sessions → length left ≤ 2 → last_line said left ≡ Ok after → Lays said after (codes "last" ∷ left)
+unfolding last_line
+last-lays said after left here few same =
+    let tag = bind_ok (name_at left) _ after same in
+    let count = bind_ok (number_at 1 64 tag.0.1) _ after tag.1.1 in
+    let first = name_spells left tag.0 tag.1.0 in
+    let fewer : length tag.0.1 ≤ 1 = omega (arith, ap (λ (ws : List (List ℕ)). length ws) first, few) in
+    let alone = one_number 1 64 tag.0.1 count.0 (lit< tt) fewer count.1.0 in
+    let whole : left ≡ tag.0.0 ∷ decimal count.0.0 ∷ [] = first ∙ ap (λ (ws : List (List ℕ)). tag.0.0 ∷ ws) alone in
+    command-lays said after (command.Last tag.0.0 count.0.0) (codes "last" ∷ left) here (ap (λ (ws : List (List ℕ)). codes "last" ∷ ws) whole) count.1.1
+
 command_line-lays : (said after : Progress) (word : CommandWord) (left : List (List ℕ)) → said.section ≡ section.Sessions → length left ≤ most_words (CommandLine word) → command_meaning said word left ≡ Ok after
     → Lays said after (text_of (CommandLine word) ∷ left)
 unfolding text_of
 command_line-lays said after Append left here few same = append-lays said after left here same
 command_line-lays said after Put left here few same = put-lays said after left here few same
-command_line-lays said after Get left here few same = cc
-command_line-lays said after Tx left here few same = cc
+command_line-lays said after Get left here few same = get-lays said after left here few same
+command_line-lays said after Tx left here few same = tx-lays said after left here same
 command_line-lays said after Read left here few same = read-lays said after left here few same
-command_line-lays said after Last left here few same = cc
+command_line-lays said after Last left here few same = last-lays said after left here few same
 
 steps-lays : (said after : Progress) (left : List (List ℕ)) → (said.section ≡ section.Stages) ⊎ (said.section ≡ section.Sessions) → length left ≤ 0 → said.steps ≡ [] → okay (record said { section = section.Steps }) ≡ okay after
     → Lays said after (codes "steps" ∷ left)

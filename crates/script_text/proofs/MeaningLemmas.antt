@@ -3,7 +3,7 @@ use Rattle.std.proofs.Common.{◌≡◌, ◌<◌, ◌+◌, List, [], ◌∷◌, 
 use Rattle.std.specs.Prelude.{nat_le, Ok}
 use Rattle.std.proofs.lemmas.Bool.Decides.{nat_tests}
 use Rattle.abstract_log.specs.declared.command.Command.{Command}
-use Rattle.abstract_log.specs.declared.command.Command.TheVariants.{Append, Put}
+use Rattle.abstract_log.specs.declared.command.Command.TheVariants.{Append, Put, Get, Last}
 use Rattle.abstract_log.specs.declared.command.SessionPlan.{SessionPlan}
 use Rattle.script_text.specs.declared.progress.Progress.{Progress}
 use Rattle.abstract_log.specs.declared.script.Step.{Step}
@@ -11,9 +11,9 @@ use Rattle.script_text.specs.declared.keyword.TurnWord.{TurnWord}
 use Rattle.script_text.specs.declared.arguments.Argument.{Argument}
 use Rattle.script_text.specs.declared.arguments.Arguments.{Arguments}
 use Rattle.script_text.specs.Keywords.{turn_arguments}
-use Rattle.script_text.specs.Reading.{body_at, name_at, names_in}
+use Rattle.script_text.specs.Reading.{number_at, body_at, name_at, names_in}
 use Rattle.script_text.specs.Arguments.{no_arguments, arguments_at, step_said}
-use Rattle.script_text.specs.Meaning.{onto_last, with_command, append_line, put_line, with_step, turn_line}
+use Rattle.script_text.specs.Meaning.{onto_last, with_command, append_line, put_line, get_line, last_line, with_step, turn_line}
 
 -- a command goes to the session that stands last
 pub onto_last-last : (plans : List SessionPlan) (plan : SessionPlan) (command : Command)
@@ -47,6 +47,15 @@ pub put_line-read : (said : Progress) (left : List (List ℕ)) (key body : List 
     → put_line said left ≡ with_command said (Put key body)
 unfolding put_line
 put_line-read said left key body more rest named spelled = rw (named, spelled) refl
+
+pub get_line-read : (said : Progress) (left : List (List ℕ)) (key : List ℕ) (more : List (List ℕ)) → name_at left ≡ Ok (key, more) → get_line said left ≡ with_command said (Get key)
+unfolding get_line
+get_line-read said left key more named = rw named refl
+
+pub last_line-read : (said : Progress) (left : List (List ℕ)) (tag : List ℕ) (n : ℕ) (more rest : List (List ℕ)) → name_at left ≡ Ok (tag, more) → number_at 1 64 more ≡ Ok (n, rest)
+    → last_line said left ≡ with_command said (Last tag n)
+unfolding last_line
+last_line-read said left tag n more rest named counted = rw (named, counted) refl
 
 pub turn_line-read : (said : Progress) (word : TurnWord) (left : List (List ℕ)) (sessions : ℕ) (kinds : List Argument) (given : Arguments) (step : Step) → sessions ≡ length said.sessions → kinds ≡ turn_arguments word
     → arguments_at said.dcs sessions no_arguments kinds left ≡ Ok given → step_said word given ≡ Ok step → turn_line said word left ≡ with_step said step

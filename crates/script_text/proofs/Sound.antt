@@ -1,5 +1,5 @@
 -- What is said so far keeps the ranges, line after line.
-use Rattle.std.proofs.Common.{◌≡◌, ◌<◌, ◌≤◌, ◌+◌, ℕ, zero, suc, List, [], ◌∷◌, ◌++◌, length, length-append, refl, ap, sym, subst, ◌∙◌, arith, Bool, true, false, cond, not, ◌&&◌, ◌||◌, nat_eq, inl, inr, All, get_or}
+use Rattle.std.proofs.Common.{◌≡◌, ◌<◌, ◌≤◌, ◌+◌, ℕ, zero, suc, List, [], ◌∷◌, ◌++◌, length, length-append, refl, ap, sym, subst, ◌∙◌, arith, Bool, true, false, cond, not, ◌&&◌, ◌||◌, nat_eq, inl, inr, All}
 use Rattle.std.specs.Prelude.{nat_le, nat_lt, Ok, Option, Some, None, is_none, drop, IfSome}
 use Rattle.std.specs.List.{list_all, list_any, find}
 use Rattle.std.proofs.lemmas.Bool.Decides.{nat_tests}
@@ -24,9 +24,9 @@ use Rattle.script_text.specs.declared.progress.Stages.{Stages as StagesOf}
 use Rattle.script_text.specs.Words.{is_number, number_of, is_name, is_body, words, is_line_byte, is_empty_word}
 use Rattle.script_text.specs.Reading.{number_in, number_at, datacentre_at, body_in, body_at, name_in, name_at, names_in}
 use Rattle.script_text.specs.Keywords.{keyword_of, stands, is_built, turn_arguments, least_words, most_words, is_start, is_datacentres, is_round, is_stages, is_sessions, is_steps, is_ended}
-use Rattle.script_text.specs.Meaning.{start, chariots_line, datacentres_line, round_line, sizes_at, stages_line, session_line, onto_last, with_command, append_line, put_line, read_line, turn_line, command_meaning, meaning, keyword_after, words_after, is_passed_over, line_after, is_given, sizes_found, sizes_given, sizes_upto, script_said}
+use Rattle.script_text.specs.Meaning.{start, chariots_line, datacentres_line, round_line, sizes_at, stages_line, session_line, onto_last, with_command, append_line, put_line, get_line, tx_line, read_line, last_line, turn_line, command_meaning, meaning, keyword_after, words_after, is_passed_over, line_after, is_given, sizes_found, sizes_given, sizes_upto, script_said}
 use Rattle.abstract_log.specs.Fits.{IsSize, FitsSizes, FitsCommand, FitsPlan, commands_of, FitsScript}
-use Rattle.script_text.specs.Spelled.{IsBuiltCommand, IsBuiltSizes, IsBuiltStages, IsBuiltStep, AreGivenOnce}
+use Rattle.script_text.specs.Spelled.{IsBuiltCommand, FitsStages, IsBuiltStep, AreGivenOnce}
 use Rattle.script_text.specs.Steps.{FitsStep}
 use Rattle.script_text.proofs.Going.{okay, okay-same, bind_ok, guard_ok, pass_ok, and_both, chosen, not_false, or_false, none_is}
 use Rattle.script_text.proofs.Spelling.{datacentre_takes}
@@ -195,49 +195,35 @@ names_take left tags same =
     let form = pass_ok (list_all is_name left) _ _ tags same in
     (cc (form.1), names_are left form.0)
 
-one_is_size : (n : ℕ) → n ≡ 1 → IsSize n
-one_is_size n one = (omega arith, omega arith)
-
-built_sizes-fit : (s : Sizes) → IsBuiltSizes s → FitsSizes s
-built_sizes-fit s built = record {
-  batchers = built.batchers;
-  filters = built.filters;
-  queues = built.queues;
-  maintainers = built.maintainers;
-  indexers = one_is_size s.indexers built.indexers;
-  senders = built.senders;
-  receivers = built.receivers;
-}
-
-sizes_take : (left : List (List ℕ)) (x : Sizes × List (List ℕ)) → sizes_at left ≡ Ok x → IsBuiltSizes x.0
+sizes_take : (left : List (List ℕ)) (x : Sizes × List (List ℕ)) → sizes_at left ≡ Ok x → FitsSizes x.0
 unfolding sizes_at
 sizes_take left x same =
     let one = bind_ok (number_at 1 16 left) _ x same in
     let two = bind_ok (number_at 1 16 one.0.1) _ x one.1.1 in
     let three = bind_ok (number_at 1 16 two.0.1) _ x two.1.1 in
     let four = bind_ok (number_at 1 16 three.0.1) _ x three.1.1 in
-    let five = bind_ok (number_at 1 1 four.0.1) _ x four.1.1 in
+    let five = bind_ok (number_at 1 16 four.0.1) _ x four.1.1 in
     let six = bind_ok (number_at 1 16 five.0.1) _ x five.1.1 in
     let seven = bind_ok (number_at 1 16 six.0.1) _ x six.1.1 in
     let a = number_takes 1 16 left one.0 one.1.0 in
     let b = number_takes 1 16 one.0.1 two.0 two.1.0 in
     let c = number_takes 1 16 two.0.1 three.0 three.1.0 in
     let d = number_takes 1 16 three.0.1 four.0 four.1.0 in
-    let e = number_takes 1 1 four.0.1 five.0 five.1.0 in
+    let e = number_takes 1 16 four.0.1 five.0 five.1.0 in
     let f = number_takes 1 16 five.0.1 six.0 six.1.0 in
     let g = number_takes 1 16 six.0.1 seven.0 seven.1.0 in
     let made : Sizes = record { batchers = one.0.0; filters = two.0.0; queues = three.0.0; maintainers = four.0.0; indexers = five.0.0; senders = six.0.0; receivers = seven.0.0 } in
     let pair : (made, seven.0.1) ≡ x = okay-same (made, seven.0.1) x seven.1.1 in
-    let built : IsBuiltSizes made = record {
+    let fits : FitsSizes made = record {
       batchers = (a.least_is, a.most_is);
       filters = (b.least_is, b.most_is);
       queues = (c.least_is, c.most_is);
       maintainers = (d.least_is, d.most_is);
-      indexers = omega (arith, e.least_is, e.most_is);
+      indexers = (e.least_is, e.most_is);
       senders = (f.least_is, f.most_is);
       receivers = (g.least_is, g.most_is);
     } in
-    subst (λ (p : Sizes × List (List ℕ)). IsBuiltSizes p.0) pair built
+    subst (λ (p : Sizes × List (List ℕ)). FitsSizes p.0) pair fits
 
 -- What has been said keeps the ranges, and is built.
 
@@ -250,7 +236,7 @@ pub record IsSound (said : Progress) : Type 0 where
   pub round : 3 ≤ rank said.section → (1 ≤ said.round) × (said.round ≤ 1024)
   pub begun : rank said.section ≤ 3 → said.sessions ≡ []
   pub bare : rank said.section ≤ 2 → said.stages ≡ []
-  pub given : All (IsBuiltStages said.dcs) said.stages
+  pub given : All (FitsStages said.dcs) said.stages
   pub once : AreGivenOnce said.stages
   pub few : length said.sessions ≤ 64
   pub plans : All (FitsPlan said.dcs) said.sessions
@@ -268,7 +254,7 @@ start-sound = record {
   round = λ h. absurd (omega arith);
   begun = λ h. refl;
   bare = λ h. refl;
-  given = All-nil (IsBuiltStages 0);
+  given = All-nil (FitsStages 0);
   once = tt;
   few = omega arith;
   plans = All-nil (FitsPlan 0);
@@ -303,8 +289,8 @@ once-push (first ∷ more) given once new =
     (is_given-push more given first.dc once.0 (eq-sym first.dc given.dc both.0), once-push more given once.1 both.1)
 
 -- where no line gave sizes, all that did keep anything
-none_given : (dcs : ℕ) (stages : List StagesOf) → stages ≡ [] → All (IsBuiltStages dcs) stages
-none_given dcs stages none = subst (λ (gs : List StagesOf). All (IsBuiltStages dcs) gs) (sym none) (All-nil (IsBuiltStages dcs))
+none_given : (dcs : ℕ) (stages : List StagesOf) → stages ≡ [] → All (FitsStages dcs) stages
+none_given dcs stages none = subst (λ (gs : List StagesOf). All (FitsStages dcs) gs) (sym none) (All-nil (FitsStages dcs))
 
 -- where no session has begun, all sessions keep anything
 none_fits : (dcs : ℕ) (plans : List SessionPlan) → plans ≡ [] → All (FitsPlan dcs) plans
@@ -398,7 +384,7 @@ stages-sound said after left here sound same =
       round = sound.round;
       begun = sound.begun;
       bare = λ h. absurd (omega arith);
-      given = All-push (IsBuiltStages said.dcs) said.stages given sound.given (record { dc = datacentre_takes said.dcs left dc.0 dc.1.0; sizes = sizes_take dc.0.1 sizes.0 sizes.1.0 });
+      given = All-push (FitsStages said.dcs) said.stages given sound.given (record { dc = datacentre_takes said.dcs left dc.0 dc.1.0; sizes = sizes_take dc.0.1 sizes.0 sizes.1.0 });
       once = once-push said.stages given sound.once new.0;
       few = sound.few;
       plans = sound.plans;
@@ -524,6 +510,20 @@ put-sound said after left here sound same =
     let body = bind_ok (body_at key.0.1) _ after key.1.1 in
     command-sound said after (command.Put key.0.0 body.0.0) here (name_takes left key.0 key.1.0, (body_takes key.0.1 body.0 body.1.0).body) tt sound body.1.1
 
+get-sound : (said after : Progress) (left : List (List ℕ)) → rank said.section ≡ 4 → IsSound said → get_line said left ≡ Ok after → IsSound after
+unfolding get_line
+get-sound said after left here sound same =
+    let key = bind_ok (name_at left) _ after same in
+    command-sound said after (command.Get key.0.0) here (name_takes left key.0 key.1.0) tt sound key.1.1
+
+tx-sound : (said after : Progress) (left : List (List ℕ)) → rank said.section ≡ 4 → 1 ≤ length left → length left ≤ 16 → IsSound said → tx_line said left ≡ Ok after → IsSound after
+unfolding tx_line
+tx-sound said after left here some few sound same =
+    let keys = bind_ok (names_in left) _ after same in
+    let named = names_take left keys.0 keys.1.0 in
+    let fits : FitsCommand (command.Tx left) = (some, (few, named.1)) in
+    command-sound said after (command.Tx keys.0) here (subst (λ (ws : List (List ℕ)). FitsCommand (command.Tx ws)) named.0 fits) tt sound keys.1.1
+
 read-sound : (said after : Progress) (left : List (List ℕ)) → rank said.section ≡ 4 → IsSound said → read_line said left ≡ Ok after → IsSound after
 unfolding read_line
 read-sound said after left here sound same =
@@ -531,13 +531,21 @@ read-sound said after left here sound same =
     let n = number_takes 1 4294967295 left lid.0 lid.1.0 in
     command-sound said after (command.Read lid.0.0) here (n.least_is, omega (arith, n.most_is)) tt sound lid.1.1
 
-command_line-sound : (said after : Progress) (word : CommandWord) (left : List (List ℕ)) → rank said.section ≡ 4 → length left ≤ most_words (CommandLine word) → IsSound said → command_meaning said word left ≡ Ok after → IsSound after
-command_line-sound said after Append left here few sound same = append-sound said after left here few sound same
-command_line-sound said after Put left here few sound same = put-sound said after left here sound same
-command_line-sound said after Get left here few sound same = cc
-command_line-sound said after Tx left here few sound same = cc
-command_line-sound said after Read left here few sound same = read-sound said after left here sound same
-command_line-sound said after Last left here few sound same = cc
+last-sound : (said after : Progress) (left : List (List ℕ)) → rank said.section ≡ 4 → IsSound said → last_line said left ≡ Ok after → IsSound after
+unfolding last_line
+last-sound said after left here sound same =
+    let tag = bind_ok (name_at left) _ after same in
+    let count = bind_ok (number_at 1 64 tag.0.1) _ after tag.1.1 in
+    let n = number_takes 1 64 tag.0.1 count.0 count.1.0 in
+    command-sound said after (command.Last tag.0.0 count.0.0) here (name_takes left tag.0 tag.1.0, (n.least_is, n.most_is)) tt sound count.1.1
+
+command_line-sound : (said after : Progress) (word : CommandWord) (left : List (List ℕ)) → rank said.section ≡ 4 → least_words (CommandLine word) ≤ length left → length left ≤ most_words (CommandLine word) → IsSound said → command_meaning said word left ≡ Ok after → IsSound after
+command_line-sound said after Append left here some few sound same = append-sound said after left here few sound same
+command_line-sound said after Put left here some few sound same = put-sound said after left here sound same
+command_line-sound said after Get left here some few sound same = get-sound said after left here sound same
+command_line-sound said after Tx left here some few sound same = tx-sound said after left here some few sound same
+command_line-sound said after Read left here some few sound same = read-sound said after left here sound same
+command_line-sound said after Last left here some few sound same = last-sound said after left here sound same
 
 -- a line that only goes on to a later section
 section-sound : (said after : Progress) (next : Section) → 3 ≤ rank said.section → 5 ≤ rank next → IsSound said → okay (record said { section = next }) ≡ okay after → IsSound after
@@ -582,16 +590,16 @@ turn-sound said after word left here few sound same =
       short = omega (arith, length-append said.steps (takes.step ∷ []), takes.room);
     })
 
-meaning-sound : (said after : Progress) (keyword : Keyword) (left : List (List ℕ)) → stands keyword said.section ≡ true → length left ≤ most_words keyword → IsSound said → meaning said keyword left ≡ Ok after → IsSound after
-meaning-sound said after Chariots left here few sound same = chariots-sound said after left (rank-start said.section here) sound same
-meaning-sound said after Datacentres left here few sound same = datacentres-sound said after left (rank-datacentres said.section here) sound same
-meaning-sound said after Round left here few sound same = round-sound said after left (rank-round said.section here) sound same
-meaning-sound said after Stages left here few sound same = stages-sound said after left (rank-stages said.section here) sound same
-meaning-sound said after Session left here few sound same = session-sound said after left (rank-either said.section here) (rank-upto said.section here) sound same
-meaning-sound said after (CommandLine word) left here few sound same = command_line-sound said after word left (rank-sessions said.section here) few sound same
-meaning-sound said after Steps left here few sound same = section-sound said after section.Steps (rank-either said.section here) (omega arith) sound same
-meaning-sound said after (Turn word) left here few sound same = turn-sound said after word left (rank-steps said.section here) few sound same
-meaning-sound said after End left here few sound same = section-sound said after section.Ended (omega (arith, rank-steps said.section here)) (omega arith) sound same
+meaning-sound : (said after : Progress) (keyword : Keyword) (left : List (List ℕ)) → stands keyword said.section ≡ true → least_words keyword ≤ length left → length left ≤ most_words keyword → IsSound said → meaning said keyword left ≡ Ok after → IsSound after
+meaning-sound said after Chariots left here some few sound same = chariots-sound said after left (rank-start said.section here) sound same
+meaning-sound said after Datacentres left here some few sound same = datacentres-sound said after left (rank-datacentres said.section here) sound same
+meaning-sound said after Round left here some few sound same = round-sound said after left (rank-round said.section here) sound same
+meaning-sound said after Stages left here some few sound same = stages-sound said after left (rank-stages said.section here) sound same
+meaning-sound said after Session left here some few sound same = session-sound said after left (rank-either said.section here) (rank-upto said.section here) sound same
+meaning-sound said after (CommandLine word) left here some few sound same = command_line-sound said after word left (rank-sessions said.section here) some few sound same
+meaning-sound said after Steps left here some few sound same = section-sound said after section.Steps (rank-either said.section here) (omega arith) sound same
+meaning-sound said after (Turn word) left here some few sound same = turn-sound said after word left (rank-steps said.section here) few sound same
+meaning-sound said after End left here some few sound same = section-sound said after section.Ended (omega (arith, rank-steps said.section here)) (omega arith) sound same
 
 keyword-sound : (said after : Progress) (keyword : Option Keyword) (left : List (List ℕ)) → IsSound said → keyword_after said keyword left ≡ Ok after → IsSound after
 keyword-sound said after None left sound same = cc
@@ -600,8 +608,9 @@ keyword-sound said after (Some keyword) left sound same =
     let built = guard_ok (not (is_built keyword)) _ _ after place.1 in
     let count = guard_ok (nat_lt (length left) (least_words keyword) || nat_lt (most_words keyword) (length left)) _ _ after built.1 in
     let most = or_false (nat_lt (length left) (least_words keyword)) (nat_lt (most_words keyword) (length left)) count.0 in
+    let some : least_words keyword ≤ length left = grind (arith, nat_tests, most.0) in
     let few : length left ≤ most_words keyword = grind (arith, nat_tests, most.1) in
-    meaning-sound said after keyword left (not_false (stands keyword said.section) place.0) few sound count.1
+    meaning-sound said after keyword left (not_false (stands keyword said.section) place.0) some few sound count.1
 
 words-sound : (said after : Progress) (left : List (List ℕ)) → IsSound said → words_after said left ≡ Ok after → IsSound after
 unfolding words_after
@@ -622,7 +631,7 @@ line-sound said after line sound same =
     ]
 
 sizes_found-fits : (given : Option StagesOf) → IfSome given (λ g. FitsSizes g.sizes) → FitsSizes (sizes_found given)
-sizes_found-fits None fits = let size : IsSize 1 = one_is_size 1 refl in record { batchers = size; filters = size; queues = size; maintainers = size; indexers = size; senders = size; receivers = size }
+sizes_found-fits None fits = let size : IsSize 1 = (omega arith, omega arith) in record { batchers = size; filters = size; queues = size; maintainers = size; indexers = size; senders = size; receivers = size }
 sizes_found-fits (Some given) fits = fits
 
 find-fits : (test : StagesOf → Bool) (stages : List StagesOf) → All (λ (g : StagesOf). FitsSizes g.sizes) stages → IfSome (find test stages) (λ g. FitsSizes g.sizes)
@@ -654,6 +663,6 @@ said-fits said sound here =
       };
       round = sound.round here;
       each = length-sizes_upto said.stages said.dcs;
-      sizes = sizes_upto-fits said.stages said.dcs (λ k d within. built_sizes-fit (get_or said.stages k d).sizes (sound.given k d within).sizes);
+      sizes = sizes_upto-fits said.stages said.dcs (λ k d within. (sound.given k d within).sizes);
       steps = sound.short;
     }

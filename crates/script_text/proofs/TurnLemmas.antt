@@ -10,7 +10,7 @@ use Rattle.abstract_log.specs.declared.script.Step.TheVariants as step
 use Rattle.script_text.specs.declared.keyword.TurnWord.{TurnWord}
 use Rattle.script_text.specs.declared.keyword.TurnWord.TheVariants.{Client, Flush, Pass, Stamp, Token, Place, Gossip, Post, Learn, Send, Deliver, Lose, Copy, Floor, Collect, Announce, Mark, AddMaintainer, AddBatcher, AddQueue, AddSender, AddReceiver}
 use Rattle.script_text.specs.declared.arguments.Argument.{Argument}
-use Rattle.script_text.specs.declared.arguments.Argument.TheVariants.{Datacentre, Other, Session, Member, Second, Packet}
+use Rattle.script_text.specs.declared.arguments.Argument.TheVariants.{Datacentre, Other, Session, Member, Second, Packet, Position}
 use Rattle.script_text.specs.declared.arguments.Arguments.{Arguments}
 use Rattle.script_text.specs.declared.progress.Progress.{Progress}
 use Rattle.script_text.specs.Keywords.{turn_text, turn_arguments}
@@ -18,7 +18,7 @@ use Rattle.script_text.specs.Reading.{number_at, number_below_at, datacentre_at,
 use Rattle.script_text.specs.Arguments.{no_arguments, argument_at, arguments_at, step_said}
 use Rattle.script_text.specs.Meaning.{with_step, turn_line}
 use Rattle.script_text.specs.Spelled.{letter, turn_words, IsBuiltStep}
-use Rattle.script_text.specs.Steps.{FitsStep}
+use Rattle.script_text.specs.Steps.{IsPosition, FitsStep}
 use Rattle.script_text.proofs.Going.{okay, okay-same, bind_ok, guard_ok}
 use Rattle.script_text.proofs.Spelling.{number_spells, below_spells, datacentre_spells, datacentre_takes, other_spells, none_left}
 
@@ -30,6 +30,7 @@ argument_word Session n = decimal n
 argument_word Member n = decimal n
 argument_word Second n = decimal n
 argument_word Packet n = decimal n
+argument_word Position n = decimal n
 
 -- its range, after what was given before
 abbrev pub IsArgument : ℕ → ℕ → Arguments → Argument → ℕ → Type 0
@@ -39,6 +40,7 @@ IsArgument dcs sessions given Session n = n < sessions
 IsArgument dcs sessions given Member n = n < 16
 IsArgument dcs sessions given Second n = n < 16
 IsArgument dcs sessions given Packet n = (1 ≤ n) × (n ≤ 64)
+IsArgument dcs sessions given Position n = IsPosition n
 
 abbrev pub with_argument : Arguments → Argument → ℕ → Arguments
 with_argument given Datacentre n = record given { dc = n }
@@ -47,6 +49,7 @@ with_argument given Session n = record given { session = n }
 with_argument given Member n = record given { member = n }
 with_argument given Second n = record given { second = n }
 with_argument given Packet n = record given { packet = n }
+with_argument given Position n = record given { position = n }
 
 -- words that write arguments of some kinds, each in its range, and what they give
 abbrev pub Write : ℕ → ℕ → Arguments → List Argument → List (List ℕ) → Arguments → Type 0
@@ -108,6 +111,13 @@ argument_spells dcs sessions given Packet left x same =
     let pair : next ≡ x = okay-same next x read.1.1 in
     let made : SpellsArgument dcs sessions given Packet left next = record { n = read.0.0; word = spelt.word; range = (spelt.low, spelt.high); gives = refl } in
     subst (λ (p : Read). SpellsArgument dcs sessions given Packet left p) pair made
+argument_spells dcs sessions given Position left x same =
+    let read = bind_ok (number_at 1 4294967295 left) _ x same in
+    let spelt = number_spells 1 4294967295 left read.0 (lit< tt) read.1.0 in
+    let next : Read = (with_argument given Position read.0.0, read.0.1) in
+    let pair : next ≡ x = okay-same next x read.1.1 in
+    let made : SpellsArgument dcs sessions given Position left next = record { n = read.0.0; word = spelt.word; range = (spelt.low, omega (arith, spelt.high)); gives = refl } in
+    subst (λ (p : Read). SpellsArgument dcs sessions given Position left p) pair made
 
 -- words that are read as arguments write them
 arguments_spell : (dcs sessions : ℕ) (given : Arguments) (kinds : List Argument) (left : List (List ℕ)) (after : Arguments) → length left ≤ length kinds → arguments_at dcs sessions given kinds left ≡ Ok after
@@ -171,7 +181,13 @@ turn_says load Gossip left given t w same =
     let said : okay (step.Gossip w.0 two.0 three.0) ≡ okay t = subst (λ (g : Arguments). step_said Gossip g ≡ okay t) (sym end.1) same in
     let words : left ≡ letter w.0 ∷ decimal two.0 ∷ decimal three.0 ∷ [] = w.1.1.0 ∙ ap (λ (ws : List (List ℕ)). letter w.0 ∷ ws) (two.1.1.0 ∙ ap (λ (ws : List (List ℕ)). decimal two.0 ∷ ws) (three.1.1.0 ∙ ap (λ (ws : List (List ℕ)). decimal three.0 ∷ ws) end.0)) in
     subst (λ (s : Step). IsTurn load Gossip left s) (okay-same (step.Gossip w.0 two.0 three.0) t said) (record { words = ap (λ (ws : List (List ℕ)). codes "gossip" ∷ ws) words; fits = (w.1.1.1.0, (two.1.1.1.0, three.1.1.1.0)); built = tt })
-turn_says load Post left given t w same = cc
+turn_says load Post left given t w same =
+    let two = w.1.1.1.1 in
+    let three = two.1.1.1.1 in
+    let end = three.1.1.1.1 in
+    let said : okay (step.Post w.0 two.0 three.0) ≡ okay t = subst (λ (g : Arguments). step_said Post g ≡ okay t) (sym end.1) same in
+    let words : left ≡ letter w.0 ∷ decimal two.0 ∷ decimal three.0 ∷ [] = w.1.1.0 ∙ ap (λ (ws : List (List ℕ)). letter w.0 ∷ ws) (two.1.1.0 ∙ ap (λ (ws : List (List ℕ)). decimal two.0 ∷ ws) (three.1.1.0 ∙ ap (λ (ws : List (List ℕ)). decimal three.0 ∷ ws) end.0)) in
+    subst (λ (s : Step). IsTurn load Post left s) (okay-same (step.Post w.0 two.0 three.0) t said) (record { words = ap (λ (ws : List (List ℕ)). codes "post" ∷ ws) words; fits = (w.1.1.1.0, (two.1.1.1.0, three.1.1.1.0)); built = tt })
 turn_says load Learn left given t w same =
     let end = w.1.1.1.1 in
     let said : okay (step.Learn w.0) ≡ okay t = subst (λ (g : Arguments). step_said Learn g ≡ okay t) (sym end.1) same in
@@ -206,8 +222,18 @@ turn_says load Copy left given t w same =
     let said : okay (step.Copy w.0 two.0 three.0) ≡ okay t = subst (λ (g : Arguments). step_said Copy g ≡ okay t) (sym end.1) same in
     let words : left ≡ letter w.0 ∷ letter two.0 ∷ decimal three.0 ∷ [] = w.1.1.0 ∙ ap (λ (ws : List (List ℕ)). letter w.0 ∷ ws) (two.1.1.0 ∙ ap (λ (ws : List (List ℕ)). letter two.0 ∷ ws) (three.1.1.0 ∙ ap (λ (ws : List (List ℕ)). decimal three.0 ∷ ws) end.0)) in
     subst (λ (s : Step). IsTurn load Copy left s) (okay-same (step.Copy w.0 two.0 three.0) t said) (record { words = ap (λ (ws : List (List ℕ)). codes "copy" ∷ ws) words; fits = (record { first = w.1.1.1.0; second = two.1.1.1.0.0; apart = two.1.1.1.0.1 }, three.1.1.1.0); built = tt })
-turn_says load Floor left given t w same = cc
-turn_says load Collect left given t w same = cc
+turn_says load Floor left given t w same =
+    let two = w.1.1.1.1 in
+    let end = two.1.1.1.1 in
+    let said : okay (step.Floor w.0 two.0) ≡ okay t = subst (λ (g : Arguments). step_said Floor g ≡ okay t) (sym end.1) same in
+    let words : left ≡ letter w.0 ∷ decimal two.0 ∷ [] = w.1.1.0 ∙ ap (λ (ws : List (List ℕ)). letter w.0 ∷ ws) (two.1.1.0 ∙ ap (λ (ws : List (List ℕ)). decimal two.0 ∷ ws) end.0) in
+    subst (λ (s : Step). IsTurn load Floor left s) (okay-same (step.Floor w.0 two.0) t said) (record { words = ap (λ (ws : List (List ℕ)). codes "floor" ∷ ws) words; fits = (w.1.1.1.0, two.1.1.1.0); built = tt })
+turn_says load Collect left given t w same =
+    let two = w.1.1.1.1 in
+    let end = two.1.1.1.1 in
+    let said : okay (step.Collect w.0 two.0) ≡ okay t = subst (λ (g : Arguments). step_said Collect g ≡ okay t) (sym end.1) same in
+    let words : left ≡ letter w.0 ∷ decimal two.0 ∷ [] = w.1.1.0 ∙ ap (λ (ws : List (List ℕ)). letter w.0 ∷ ws) (two.1.1.0 ∙ ap (λ (ws : List (List ℕ)). decimal two.0 ∷ ws) end.0) in
+    subst (λ (s : Step). IsTurn load Collect left s) (okay-same (step.Collect w.0 two.0) t said) (record { words = ap (λ (ws : List (List ℕ)). codes "collect" ∷ ws) words; fits = (w.1.1.1.0, two.1.1.1.0); built = tt })
 turn_says load Announce left given t w same = cc
 turn_says load Mark left given t w same = cc
 turn_says load AddMaintainer left given t w same = cc

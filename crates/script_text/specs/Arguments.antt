@@ -7,13 +7,13 @@ use Rattle.script_text.specs.declared.fault.Cause.TheVariants.{NotBuilt}
 use Rattle.script_text.specs.declared.keyword.TurnWord.{TurnWord}
 use Rattle.script_text.specs.declared.keyword.TurnWord.TheVariants.{Client, Flush, Pass, Stamp, Token, Place, Gossip, Post, Learn, Send, Deliver, Lose, Copy, Floor, Collect, Announce, Mark, AddMaintainer, AddBatcher, AddQueue, AddSender, AddReceiver}
 use Rattle.script_text.specs.declared.arguments.Argument.{Argument}
-use Rattle.script_text.specs.declared.arguments.Argument.TheVariants.{Datacentre, Other, Session, Member, Second, Packet}
+use Rattle.script_text.specs.declared.arguments.Argument.TheVariants.{Datacentre, Other, Session, Member, Second, Packet, Position}
 use Rattle.script_text.specs.declared.arguments.Arguments.{Arguments}
 use Rattle.script_text.specs.Reading.{◌>>=◌, number_at, number_below_at, datacentre_at, other_datacentre_at}
 
 -- nothing has been given
 abbrev pub no_arguments : Arguments
-no_arguments = record { dc = 0; other = 0; session = 0; member = 0; second = 0; packet = 0 }
+no_arguments = record { dc = 0; other = 0; session = 0; member = 0; second = 0; packet = 0; position = 0 }
 
 -- One argument of a kind, where there are so many datacentres and sessions. The other datacentre is not the one that was given before.
 unfoldable pub argument_at : ℕ → ℕ → Arguments → Argument → List (List ℕ) → Result (Arguments × List (List ℕ)) Cause
@@ -35,6 +35,9 @@ argument_at dcs sessions given Second left = do
 argument_at dcs sessions given Packet left = do
   n ← number_at 1 64 left
   Ok (record given { packet = n.0 }, n.1)
+argument_at dcs sessions given Position left = do
+  n ← number_at 1 4294967295 left
+  Ok (record given { position = n.0 }, n.1)
 
 -- the arguments of some kinds, from left to right
 abbrev pub arguments_at : ℕ → ℕ → Arguments → List Argument → List (List ℕ) → Result Arguments Cause
@@ -50,14 +53,14 @@ step_said Stamp given = Ok (step.Stamp given.dc given.member)
 step_said Token given = Ok (step.Token given.dc)
 step_said Place given = Ok (step.Place given.dc given.member given.second)
 step_said Gossip given = Ok (step.Gossip given.dc given.member given.second)
-step_said Post given = Err NotBuilt
+step_said Post given = Ok (step.Post given.dc given.member given.second)
 step_said Learn given = Ok (step.Learn given.dc)
 step_said Send given = Ok (step.Send given.dc given.member given.other)
 step_said Deliver given = Ok (step.Deliver given.dc given.other given.packet given.member)
 step_said Lose given = Ok (step.Lose given.dc given.other given.packet)
 step_said Copy given = Ok (step.Copy given.dc given.other given.packet)
-step_said Floor given = Err NotBuilt
-step_said Collect given = Err NotBuilt
+step_said Floor given = Ok (step.Floor given.dc given.position)
+step_said Collect given = Ok (step.Collect given.dc given.member)
 step_said Announce given = Err NotBuilt
 step_said Mark given = Err NotBuilt
 step_said AddMaintainer given = Err NotBuilt

@@ -52,7 +52,7 @@ sizes_at rest = do
   filters ← number_at 1 16 batchers.1
   queues ← number_at 1 16 filters.1
   maintainers ← number_at 1 16 queues.1
-  indexers ← number_at 1 1 maintainers.1
+  indexers ← number_at 1 16 maintainers.1
   senders ← number_at 1 16 indexers.1
   receivers ← number_at 1 16 senders.1
   Ok (record { batchers = batchers.0; filters = filters.0; queues = queues.0; maintainers = maintainers.0; indexers = indexers.0; senders = senders.0; receivers = receivers.0 }, receivers.1)
@@ -94,19 +94,35 @@ put_line said rest = do
   body ← body_at key.1
   with_command said (command.Put key.0 body.0)
 
+unfoldable pub get_line : Progress → List (List ℕ) → Result Progress Cause
+get_line said rest = do
+  key ← name_at rest
+  with_command said (command.Get key.0)
+
+unfoldable pub tx_line : Progress → List (List ℕ) → Result Progress Cause
+tx_line said rest = do
+  keys ← names_in rest
+  with_command said (command.Tx keys)
+
 unfoldable pub read_line : Progress → List (List ℕ) → Result Progress Cause
 read_line said rest = do
   lid ← number_at 1 4294967295 rest
   with_command said (command.Read lid.0)
 
+unfoldable pub last_line : Progress → List (List ℕ) → Result Progress Cause
+last_line said rest = do
+  tag ← name_at rest
+  count ← number_at 1 64 tag.1
+  with_command said (command.Last tag.0 count.0)
+
 -- the commands
 abbrev pub command_meaning : Progress → CommandWord → List (List ℕ) → Result Progress Cause
 command_meaning said Append rest = append_line said rest
 command_meaning said Put rest = put_line said rest
-command_meaning said Get rest = Err NotBuilt
-command_meaning said Tx rest = Err NotBuilt
+command_meaning said Get rest = get_line said rest
+command_meaning said Tx rest = tx_line said rest
 command_meaning said Read rest = read_line said rest
-command_meaning said Last rest = Err NotBuilt
+command_meaning said Last rest = last_line said rest
 
 -- at most 65,536 steps
 unfoldable pub with_step : Progress → Step → Result Progress Cause

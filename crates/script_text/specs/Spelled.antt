@@ -6,12 +6,11 @@ use Rattle.abstract_log.specs.declared.command.Command.{Command}
 use Rattle.abstract_log.specs.declared.command.Command.TheVariants.{Append, Put, Get, Tx, Read, Last}
 use Rattle.abstract_log.specs.declared.command.SessionPlan.{SessionPlan}
 use Rattle.abstract_log.specs.declared.script.Script.{Script}
-use Rattle.abstract_log.specs.declared.script.Sizes.{Sizes}
 use Rattle.abstract_log.specs.declared.script.Step.{Step}
 use Rattle.abstract_log.specs.declared.script.Step.TheVariants as step
 use Rattle.script_text.specs.declared.progress.Stages.{Stages}
 use Rattle.script_text.specs.Words.{words, is_line_byte}
-use Rattle.abstract_log.specs.Fits.{IsSize, FitsScript}
+use Rattle.abstract_log.specs.Fits.{FitsSizes, FitsScript}
 use Rattle.script_text.specs.Steps.{FitsStep}
 use Rattle.script_text.specs.Meaning.{is_passed_over, is_given, sizes_upto}
 
@@ -95,26 +94,16 @@ pub record Spells (script : Script) (lines : List (List ℕ)) : Type 0 where
 
 -- What is read yet.
 
--- one indexer
-pub record IsBuiltSizes (sizes : Sizes) : Type 0 where
-  pub batchers : IsSize sizes.batchers
-  pub filters : IsSize sizes.filters
-  pub queues : IsSize sizes.queues
-  pub maintainers : IsSize sizes.maintainers
-  pub indexers : sizes.indexers ≡ 1
-  pub senders : IsSize sizes.senders
-  pub receivers : IsSize sizes.receivers
-
--- appends, puts and reads
+-- all commands
 abbrev pub IsBuiltCommand : Command → Type 0
 IsBuiltCommand (Append tags body) = Unit {0}
 IsBuiltCommand (Put key body) = Unit {0}
-IsBuiltCommand (Get key) = ⊥
-IsBuiltCommand (Tx keys) = ⊥
+IsBuiltCommand (Get key) = Unit {0}
+IsBuiltCommand (Tx keys) = Unit {0}
 IsBuiltCommand (Read lid) = Unit {0}
-IsBuiltCommand (Last tag n) = ⊥
+IsBuiltCommand (Last tag n) = Unit {0}
 
--- all turns but those of indexers, of collection and of added members
+-- all turns but those that add members
 abbrev pub IsBuiltStep : Step → Type 0
 IsBuiltStep (step.Client s) = Unit {0}
 IsBuiltStep (step.Flush d b) = Unit {0}
@@ -123,14 +112,14 @@ IsBuiltStep (step.Stamp d q) = Unit {0}
 IsBuiltStep (step.Token d) = Unit {0}
 IsBuiltStep (step.Place d q m) = Unit {0}
 IsBuiltStep (step.Gossip d m k) = Unit {0}
-IsBuiltStep (step.Post d m i) = ⊥
+IsBuiltStep (step.Post d m i) = Unit {0}
 IsBuiltStep (step.Learn d) = Unit {0}
 IsBuiltStep (step.Send d k e) = Unit {0}
 IsBuiltStep (step.Deliver d e k r) = Unit {0}
 IsBuiltStep (step.Lose d e k) = Unit {0}
 IsBuiltStep (step.Copy d e k) = Unit {0}
-IsBuiltStep (step.Floor d p) = ⊥
-IsBuiltStep (step.Collect d m) = ⊥
+IsBuiltStep (step.Floor d p) = Unit {0}
+IsBuiltStep (step.Collect d m) = Unit {0}
 IsBuiltStep (step.Announce d h t) = ⊥
 IsBuiltStep (step.Mark d) = ⊥
 IsBuiltStep (step.AddMaintainer d p) = ⊥
@@ -145,16 +134,16 @@ AreGivenOnce [] = Unit {0}
 AreGivenOnce (given ∷ more) = (is_given more given.dc ≡ false) × AreGivenOnce more
 
 -- the sizes of a datacentre that there is
-pub record IsBuiltStages (dcs : ℕ) (given : Stages) : Type 0 where
+pub record FitsStages (dcs : ℕ) (given : Stages) : Type 0 where
   pub dc : given.dc < dcs
-  pub sizes : IsBuiltSizes given.sizes
+  pub sizes : FitsSizes given.sizes
 
 -- The lines spell the script as it has to be written: each byte is one of a line, the sizes of a datacentre
 -- are given at most once, all ranges are kept, and there are only lines that are read yet.
 pub record IsWritten (script : Script) (lines : List (List ℕ)) : Type 0 where
   pub spells : Spells script lines
   pub bytes : All (λ line. list_all is_line_byte line ≡ true) lines
-  pub stages : All (IsBuiltStages script.workload.dcs) spells.stages
+  pub stages : All (FitsStages script.workload.dcs) spells.stages
   pub once : AreGivenOnce spells.stages
   pub fits : FitsScript script
   pub steps : All (FitsStep script.workload) script.steps

@@ -23,6 +23,8 @@ pub enum Argument {
     Second,
     /// The number of a packet, 1 to 64.
     Packet,
+    /// A position, 1 or more.
+    Position,
 }
 
 /// What the words of a step line have given so far; 0 stands for what was not given.
@@ -34,6 +36,7 @@ pub struct Arguments {
     pub member: u32,
     pub second: u32,
     pub packet: u32,
+    pub position: u32,
 }
 
 const NO_ARGUMENTS: Arguments = Arguments {
@@ -43,6 +46,7 @@ const NO_ARGUMENTS: Arguments = Arguments {
     member: 0,
     second: 0,
     packet: 0,
+    position: 0,
 };
 
 const MEMBERS: usize = 16;
@@ -67,6 +71,7 @@ impl Arguments {
             Argument::Member => given.member = words.number_below(MEMBERS)?,
             Argument::Second => given.second = words.number_below(MEMBERS)?,
             Argument::Packet => given.packet = words.number(1, 64)?,
+            Argument::Position => given.position = words.number(1, u32::MAX)?,
         }
         Ok(given)
     }
@@ -100,7 +105,9 @@ pub fn step_said(word: TurnWord, given: Arguments) -> Result<Step, LineFault>
         member: m,
         second: n,
         packet: k,
+        position,
     } = given;
+    let p = u64::from(position);
     match word {
         TurnWord::Client => Ok(Step::Client { s }),
         TurnWord::Flush => Ok(Step::Flush { d, b: m }),
@@ -109,15 +116,15 @@ pub fn step_said(word: TurnWord, given: Arguments) -> Result<Step, LineFault>
         TurnWord::Token => Ok(Step::Token { d }),
         TurnWord::Place => Ok(Step::Place { d, q: m, m: n }),
         TurnWord::Gossip => Ok(Step::Gossip { d, m, k: n }),
+        TurnWord::Post => Ok(Step::Post { d, m, i: n }),
         TurnWord::Learn => Ok(Step::Learn { d }),
         TurnWord::Send => Ok(Step::Send { d, k: m, e }),
         TurnWord::Deliver => Ok(Step::Deliver { d, e, k, r: m }),
         TurnWord::Lose => Ok(Step::Lose { d, e, k }),
         TurnWord::Copy => Ok(Step::Copy { d, e, k }),
-        TurnWord::Post
-        | TurnWord::Floor
-        | TurnWord::Collect
-        | TurnWord::Announce
+        TurnWord::Floor => Ok(Step::Floor { d, p }),
+        TurnWord::Collect => Ok(Step::Collect { d, m }),
+        TurnWord::Announce
         | TurnWord::Mark
         | TurnWord::AddMaintainer
         | TurnWord::AddBatcher

@@ -2,7 +2,7 @@ ghost use Rattle.std.specs.Prelude.{◌≡◌, ◌==◌, IfOk};
 ghost use Rattle.std.specs.List.{list_all, list_any, find};
 ghost use Rattle.script_text.specs.Words.{words, is_line_byte, is_empty_word};
 ghost use Rattle.script_text.specs.Reading.{Gives};
-ghost use Rattle.script_text.specs.Meaning.{start, chariots_line, datacentres_line, round_line, sizes_at, stages_line, session_line, append_line, put_line, read_line, with_command, command_meaning, with_step, turn_line, meaning, words_after, line_after, is_given, is_passed_over, sizes_given, script_said};
+ghost use Rattle.script_text.specs.Meaning.{start, chariots_line, datacentres_line, round_line, sizes_at, stages_line, session_line, append_line, put_line, get_line, tx_line, read_line, last_line, with_command, command_meaning, with_step, turn_line, meaning, words_after, line_after, is_given, is_passed_over, sizes_given, script_said};
 
 use crate::arguments::{read_arguments, step_said};
 use crate::fault::{Cause, LineFault};
@@ -139,6 +139,24 @@ impl Progress {
         self.put_command(Command::Put { key, body })
     }
 
+    #[tactic(auto, unfolding(crate::specs::Meaning::get_line))]
+    fn get(&mut self, words: &mut Words<'_>) -> Result<(), LineFault>
+        ensures { Gives (λ _. self.new) result (get_line self.old words.old) }
+    {
+        let alloc = self.sessions.alloc();
+        let key = words.name(alloc)?;
+        self.put_command(Command::Get { key })
+    }
+
+    #[tactic(auto, unfolding(crate::specs::Meaning::tx_line))]
+    fn tx(&mut self, words: &mut Words<'_>) -> Result<(), LineFault>
+        ensures { Gives (λ _. self.new) result (tx_line self.old words.old) }
+    {
+        let alloc = self.sessions.alloc();
+        let keys = words.names(alloc)?;
+        self.put_command(Command::Tx { keys })
+    }
+
     #[tactic(auto, unfolding(crate::specs::Meaning::read_line))]
     fn read(&mut self, words: &mut Words<'_>) -> Result<(), LineFault>
         ensures { Gives (λ _. self.new) result (read_line self.old words.old) }
@@ -147,6 +165,16 @@ impl Progress {
         self.put_command(Command::Read {
             lid: u64::from(lid),
         })
+    }
+
+    #[tactic(auto, unfolding(crate::specs::Meaning::last_line))]
+    fn last(&mut self, words: &mut Words<'_>) -> Result<(), LineFault>
+        ensures { Gives (λ _. self.new) result (last_line self.old words.old) }
+    {
+        let alloc = self.sessions.alloc();
+        let tag = words.name(alloc)?;
+        let count = words.number(1, 64)?;
+        self.put_command(Command::Last { tag, count })
     }
 
     // The next command of the session that began last.
@@ -216,10 +244,10 @@ impl Progress {
         match word {
             CommandWord::Append => self.append(words),
             CommandWord::Put => self.put(words),
-            CommandWord::Get => Err(LineFault::Bad(Cause::NotBuilt)),
-            CommandWord::Tx => Err(LineFault::Bad(Cause::NotBuilt)),
+            CommandWord::Get => self.get(words),
+            CommandWord::Tx => self.tx(words),
             CommandWord::Read => self.read(words),
-            CommandWord::Last => Err(LineFault::Bad(Cause::NotBuilt)),
+            CommandWord::Last => self.last(words),
         }
     }
 
@@ -301,7 +329,7 @@ fn read_sizes(words: &mut Words<'_>) -> Result<Sizes, LineFault>
     let filters = words.number(1, 16)?;
     let queues = words.number(1, 16)?;
     let maintainers = words.number(1, 16)?;
-    let indexers = words.number(1, 1)?;
+    let indexers = words.number(1, 16)?;
     let senders = words.number(1, 16)?;
     let receivers = words.number(1, 16)?;
     Ok(Sizes {

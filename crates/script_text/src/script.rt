@@ -32,7 +32,7 @@ pub fn read_script(alloc: Global, bytes: &[u8]) -> Result<Script, ScriptFault>
     // between two, and its numbers are in their ranges.
     ensures steps { IfOk result (λ script. All (FitsStep script.workload) script.steps) }
 
-    // As yet it has appends, puts and reads, and no steps of indexers, of collection and of added members.
+    // As yet it has no steps that add members.
     ensures built { IfOk result (λ script. All (λ plan. All IsBuiltCommand plan.commands) script.workload.sessions × All IsBuiltStep script.steps) }
 {
     read_lines(alloc, bytes)

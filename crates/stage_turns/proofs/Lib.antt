@@ -8,7 +8,7 @@ pub mod StampStands
 pub mod StampTurns
 pub mod Flushes
 pub mod FlushMay
-pub mod ReadLemmas
+pub mod ShelfLemmas
 pub mod ClientMay
 pub mod ClientIs
 pub mod PlacingLemmas

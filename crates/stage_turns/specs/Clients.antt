@@ -91,9 +91,9 @@ abbrev pub session_changes : Bool → Turned → Bool
 session_changes was_pinned t = is_some t.opened || goes_on was_pinned t.next
 
 -- What the turn of a session of datacentre d leaves of it and of the pins, and what it tells.
-pub record IsSessionTurn (d : ℕ) (log : List Record) (m : ShelfState) (x : SessionState) (g : Floored) (done : TurnDone) (new : SessionState) (after : Floored) : Type 0 where
+pub record IsSessionTurn (d : ℕ) (log : List Record) (m : ShelfState) (x : SessionState) (done : TurnDone) (new : SessionState) (after : Floored) : Type 0 where
   pub session : new ≡ (turn_of log m x).session
-  pub floor : after ≡ record g { pins = (turn_of log m x).shelf.pins }
+  pub floor : after ≡ record { floor = (turn_of log m x).shelf.floor; pins = (turn_of log m x).shelf.pins }
   pub outcome : done.outcome ≡ outcome_of (turn_of log m x).next
   pub events : done.events ≡ events_of d x.number (turned log m x)
   pub changed : done.changed ≡ session_changes (is_some x.pin) (turned log m x)

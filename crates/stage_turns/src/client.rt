@@ -1,10 +1,10 @@
 //! A session goes on with its command.
-ghost use Rattle.std.specs.Prelude.{◌≡◌, ◌%◌, List, IfOk, OnOk, not};
+ghost use Rattle.std.specs.Prelude.{◌≡◌, ◌%◌, ◌++◌, List, IfOk, OnOk, not};
 ghost use Rattle.causal_deps.specs.declared.record.Record.{Record as RecordValue};
 ghost use Rattle.hyksos.specs.Sessions.{HasFound, begun};
 ghost use Rattle.stage_world.specs.Stages.{vector_at};
 ghost use Rattle.stage_turns.specs.Shelves.{ShowsLog};
-ghost use Rattle.stage_turns.specs.Clients.{IsSessionTurn, MayRead, MayWrite, batchers_written, begin_events, events_of, goes_on, outcome_of, session_changes, shelf_for, write_events, write_outcome};
+ghost use Rattle.stage_turns.specs.Clients.{IsSessionTurn, MayRead, MayWrite, batchers_written, begin_events, events_of, goes_on, outcome_of, reply_events, session_changes, shelf_for, write_events, write_outcome};
 
 use crate::TurnDone;
 use crate::stage_shelf::StageShelf;
@@ -13,7 +13,7 @@ use batcher::Batcher;
 use causal_deps::{Item, Record};
 use cz_base::{DcId, NoMemory, Seq};
 use head_gossip::Vector;
-use hyksos::{Next, Session, Turned};
+use hyksos::{Next, Session};
 use log_gc::Gc;
 use maintainer::Maintainer;
 use std::alloc::Global;
@@ -76,7 +76,7 @@ pub fn client_read(
 
     // Each log that the stages show gives the same turn.
     ensures turn { (log : List RecordValue) → ShowsLog (vector_at vectors.old (s % first_maintainers)) maintainers.old indexers.old floor.old log → HasFound log session.old
-        → IfOk result (λ done. IsSessionTurn dc log (shelf_for s first_maintainers maintainers.old vectors.old indexers.old floor.old) session.old floor.old done session.new floor.new) }
+        → IfOk result (λ done. IsSessionTurn dc log (shelf_for s first_maintainers maintainers.old vectors.old indexers.old floor.old) session.old done session.new floor.new) }
 {
     let was_pinned = session.is_pinned();
     let mut shelf = StageShelf {
@@ -88,7 +88,15 @@ pub fn client_read(
     let tried = session.try_next(&mut shelf);
     let StageShelf { floor: after, .. } = shelf;
     *floor = after;
-    told(maintainers.alloc(), dc, s, was_pinned, tried?)
+    let turned = tried?;
+    told(
+        maintainers.alloc(),
+        dc,
+        s,
+        was_pinned,
+        turned.opened,
+        turned.next,
+    )
 }
 
 // What is told of a turn.
@@ -97,30 +105,45 @@ fn told(
     dc: DcId,
     s: u32,
     was_pinned: bool,
-    turned: Turned,
+    opened: Option<u32>,
+    next: Next,
 ) -> Result<TurnDone, NoMemory>
-    ensures outcome { IfOk result (λ done. done.outcome ≡ outcome_of turned.next) }
-    ensures events { IfOk result (λ done. done.events ≡ events_of dc s turned) }
-    ensures changed { IfOk result (λ done. done.changed ≡ session_changes was_pinned turned) }
+    ensures outcome { IfOk result (λ done. done.outcome ≡ outcome_of next) }
+    ensures events { IfOk result (λ done. done.events ≡ events_of dc s (record { opened = opened; next = next })) }
+    ensures changed { IfOk result (λ done. done.changed ≡ session_changes was_pinned (record { opened = opened; next = next })) }
 {
-    let Turned { opened, next } = turned;
-    let mut events = begin_events(alloc, s, opened)?;
+    let events = begin_events(alloc, s, opened)?;
     let changed = opened.is_some() || goes_on(&next, was_pinned);
     let outcome = outcome_of(&next);
-    if let Next::Replied { index, at, answer } = next {
-        events.push(Event::Reply {
+    Ok(TurnDone {
+        outcome,
+        events: with_reply(events, dc, s, next)?,
+        changed,
+    })
+}
+
+// The event where a command was answered, after these.
+fn with_reply(events: Seq<Event>, dc: DcId, s: u32, next: Next) -> Result<Seq<Event>, NoMemory>
+    ensures { IfOk result (λ all. all ≡ events ++ reply_events dc s next) }
+{
+    let mut events = events;
+    match next {
+        Next::Submitted(_draft) => {}
+        Next::Replied { index, at, answer } => events.push(Event::Reply {
             dc,
             session: s,
             index,
             at,
             answer,
-        })?;
+        })?,
+        Next::Key { .. } => {}
+        Next::Waiting { .. } => {}
+        Next::Unacknowledged { .. } => {}
+        Next::Below { .. } => {}
+        Next::Behind { .. } => {}
+        Next::Finished => {}
     }
-    Ok(TurnDone {
-        outcome,
-        events,
-        changed,
-    })
+    Ok(events)
 }
 
 // The event where a command was begun.

@@ -7,7 +7,6 @@
 
 mod client;
 mod collecting;
-mod commands;
 mod done;
 mod flushing;
 mod learning;
@@ -16,7 +15,8 @@ mod receiving;
 mod ring;
 mod sender_stock;
 mod sending;
-mod session;
+mod shelving;
+mod stage_shelf;
 mod stamping;
 mod stocking;
 mod telling;
@@ -30,6 +30,5 @@ pub use placing::place;
 pub use receiving::deliver;
 pub use ring::{holder, token};
 pub use sending::{SendDone, has_more, send};
-pub use session::Session;
 pub use stamping::{place_of, stamp};
 pub use telling::gossip;

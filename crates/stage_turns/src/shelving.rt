@@ -1,6 +1,7 @@
 ghost use Rattle.std.specs.Prelude.{◌≡◌, ◌↔◌, ◌^◌, ◌<◌, ◌≤◌, ℕ, Contains, IsTrue};
 ghost use Rattle.std.specs.Option.{option_copied};
-ghost use Rattle.maintainer.specs.Maintainers.{value_at};
+ghost use Rattle.std.specs.List.{list_any};
+ghost use Rattle.maintainer.specs.Maintainers.{is_some_within, value_at};
 ghost use Rattle.stage_world.specs.MoreTurns.{record_kept};
 ghost use Rattle.stage_turns.specs.Shelves.{gone_in};
 
@@ -93,7 +94,14 @@ fn has_gone(maintainers: &[Maintainer<Record>], lid: Lid) -> bool
     requires { (p : ℕ) → Contains (gone_in maintainers.now) p → p < 2 ^ 48 }
     ensures { IsTrue result ↔ Contains (gone_in maintainers.now) lid }
 {
+    has_gone_within(maintainers, lid, lid.saturating_add(1))
+}
+
+// Whether one of them has let a position from `low` up to below `top` go.
+fn has_gone_within(maintainers: &[Maintainer<Record>], low: Lid, top: Lid) -> bool
+    ensures { result ≡ list_any (λ m. is_some_within low top m.gone) maintainers.now }
+{
     maintainers
         .iter()
-        .any(|maintainer| maintainer.has_gone_within(lid, lid.saturating_add(1)))
+        .any(|maintainer| maintainer.has_gone_within(low, top))
 }

@@ -9,6 +9,7 @@ use maintainer::Maintainer;
 use tag_indexer::Indexer;
 
 /// What the stages of a datacentre show to a session that this vector serves.
+#[derive(Drop)]
 pub struct StageShelf<'a> {
     pub vector: &'a Vector,
     pub maintainers: &'a Seq<Maintainer<Record>>,

@@ -7,11 +7,12 @@ ghost use Rattle.stage_world.specs.Stages.{Session as SessionState};
 ghost use Rattle.stage_turns.specs.Changing.{stamp_changes};
 ghost use Rattle.stage_turns.specs.Stamping.{CanAck, MayStamp, acked_by, event_of, events_stamped, items_of, outcome_stamped, queue_stamped, sessions_stamped};
 
+use crate::TurnDone;
 use crate::done::has_some;
-use crate::{Session, TurnDone};
 use abstract_log::{Event, Outcome};
 use causal_deps::Place;
 use cz_base::{DcId, NoMemory, Seq};
+use hyksos::Session;
 use token_queue::{Queue, Stamp, StampFault};
 
 /// The queue that has the token drains what was deferred and its own items, and each write that got its place is

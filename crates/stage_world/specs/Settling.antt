@@ -3,7 +3,7 @@ use Rattle.std.specs.Prelude.{◌≡◌, ◌⊎◌, ℕ, zero, suc, ◌+◌, ◌
 use Rattle.std.specs.List.{list_any, list_all}
 use Rattle.abstract_log.specs.declared.command.Workload.{Workload}
 use Rattle.abstract_log.specs.declared.script.Step.{Step}
-use Rattle.abstract_log.specs.declared.script.Step.TheVariants.{Client, Flush, Pass, Stamp, Token, Place, Gossip, Learn, Send, Deliver}
+use Rattle.abstract_log.specs.declared.script.Step.TheVariants.{Client, Flush, Pass, Stamp, Token, Place, Gossip, Post, Learn, Send, Deliver}
 use Rattle.stage_world.specs.Stages.{Datacentre, Session, Stages}
 use Rattle.stage_world.specs.Opening.{numbered}
 use Rattle.stage_world.specs.MoreTurns.{message_of, same_counts}
@@ -29,15 +29,18 @@ passes d z = numbered (λ f. Pass d f (f % length z.queues)) (length z.filters)
 abbrev pub ring : ℕ → Datacentre → List Step
 ring d z = flat_map (λ i. Stamp d ((z.token.at + i) % length z.queues) ∷ Token d ∷ []) (below (length z.queues))
 
--- .. each queue with each maintainer, each maintainer with each vector
+-- .. each queue with each maintainer, each maintainer with each vector and with each indexer
 abbrev pub places : ℕ → Datacentre → List Step
 places d z = flat_map (λ q. numbered (Place d q) (length z.maintainers)) (below (length z.queues))
 
 abbrev pub gossips : ℕ → Datacentre → List Step
 gossips d z = flat_map (λ m. numbered (Gossip d m) (length z.maintainers)) (below (length z.maintainers))
 
+abbrev pub posts : ℕ → Datacentre → List Step
+posts d z = flat_map (λ m. numbered (Post d m) (length z.indexers)) (below (length z.maintainers))
+
 abbrev pub local_round : ℕ → Datacentre → List Step
-local_round d z = clients z ++ flushes d z ++ passes d z ++ ring d z ++ places d z ++ gossips d z ++ Learn d ∷ []
+local_round d z = clients z ++ flushes d z ++ passes d z ++ ring d z ++ places d z ++ gossips d z ++ posts d z ++ Learn d ∷ []
 
 -- the local rounds of these datacentres, one after another; none changes what another does
 abbrev pub rounds : Stages → List ℕ → List Step

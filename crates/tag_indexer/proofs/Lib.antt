@@ -1,3 +1,10 @@
 pub mod NewestLemmas
 pub mod TaggedLemmas
 pub mod RowLemmas
+pub mod LidLemmas
+pub mod TagLemmas
+pub mod FindLemmas
+pub mod ScanLemmas
+pub mod ListedLemmas
+pub mod AnswerLemmas
+pub mod PostedLemmas

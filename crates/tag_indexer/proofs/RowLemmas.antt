@@ -45,12 +45,12 @@ rows_in_has rows (x ∷ xs) p has = elim (Contains-cons x xs p has) [
   | inr rest ↦ rows_in_has (row_in x rows) xs p rest
 ]
 
-All-rows_in : (P : Post → Type 0) (rows more : List Post) → All P rows → All P more → All P (rows_in rows more)
+pub All-rows_in : (P : Post → Type 0) (rows more : List Post) → All P rows → All P more → All P (rows_in rows more)
 All-rows_in P rows [] all new = all
 All-rows_in P rows (x ∷ xs) all new = All-rows_in P (row_in x rows) xs (All-row_in P x rows (All-head P x xs new) all) (All-tail P x xs new)
 
 -- what is kept of a list passes
-All-passed : (P : Post → Type 0) (test : Post → Bool) (ps : List Post) → All P ps → All (λ x. P x × (test x ≡ true)) (filter test ps)
+pub All-passed : (P : Post → Type 0) (test : Post → Bool) (ps : List Post) → All P ps → All (λ x. P x × (test x ≡ true)) (filter test ps)
 All-passed P test [] all = All-nil (λ x. P x × (test x ≡ true))
 All-passed P test (x ∷ xs) all =
     let Q : Post → Type 0 = λ y. P y × (test y ≡ true) in
@@ -175,7 +175,7 @@ module _ (i : IndexerState) (e : EpochList) (m upto : ℕ) (rows : List Post) (f
   pub posted_rise : AreRows i.rows → All (λ post. IsBelowMark i.pair post.place.lid) i.rows → AreRows new.rows
   posted_rise rise marked = rows_in_rise i.rows kept rise (AllPairs-filter (λ (a b : Post). a.place.lid ≢ b.place.lid) here rows once) (apart marked)
 
-  new_marked : length i.pair.marks ≡ 16 → (x : Post) → IsOwn x → IsBelowMark new.pair x.place.lid
+  pub new_marked : length i.pair.marks ≡ 16 → (x : Post) → IsOwn x → IsBelowMark new.pair x.place.lid
   new_marked size x has = omega (arith, ap (mark_at new.pair) has.3, top size, has.2)
 
   pub posted_indexed : (log : List Record) → IsIndexed log i → All (IsRowOf log) rows → IsIndexed log new

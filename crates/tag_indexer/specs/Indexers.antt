@@ -1,6 +1,7 @@
 -- Indexers: each has the rows of the records whose tags have their home there, up to a mark of each maintainer.
 use Rattle.std.specs.Prelude.{◌≡◌, ℕ, ◌<◌, ◌≤◌, ◌==◌, true, if◌then◌else◌, nat_lt, List, [], map, filter, length, All, Contains}
 use Rattle.std.specs.List.{AllPairs}
+use Rattle.std.specs.List.Sorted.{IsNonDecreasingBy}
 use Rattle.causal_deps.specs.declared.answers.Newest.{Newest}
 use Rattle.causal_deps.specs.declared.answers.Newest.TheVariants.{Behind, Found, Absent}
 use Rattle.flstore_rounds.specs.Epochs.{EpochList, owner, longer, later_than}
@@ -44,6 +45,15 @@ found_lid p = if p == 0 then Absent else Found p
 -- Newest: the last put of the key at or below s, unless less than s is covered
 abbrev pub newest_found : IndexerState → List ℕ → ℕ → Newest
 newest_found i key s = if nat_lt (head i.pair) s then Behind (head i.pair) else found_lid (newest_row i.rows key s)
+
+-- positions do not fall along the rows
+abbrev pub AreSorted : List Post → Type 0
+AreSorted rows = IsNonDecreasingBy (λ post. post.place.lid) rows
+
+-- positions rise along the rows, and begin at 1
+pub record AreInOrder (rows : List Post) : Type 0 where
+  pub rising : AllPairs (λ a b. a.place.lid < b.place.lid) rows
+  pub first : All (λ post. 1 ≤ post.place.lid) rows
 
 -- What each indexer keeps: its marks begin at 1, and its rows rise by position, are of positions below the mark of their
 -- owner, and have a tag at home here.

@@ -1,3 +1,4 @@
 pub mod Rows
 pub mod Indexers
 pub mod Indexed
+pub mod TagIndexes

@@ -1,14 +1,16 @@
-ghost use Rattle.std.specs.Prelude.{◌≡◌, ℕ, ◌<◌, ◌≤◌, ◌⊎◌, ◌↔◌, List, take, length, All, Bool, IsTrue, IfOk, IsErrOf, OnOk, OnErr, MatchOption};
+ghost use Rattle.std.specs.Prelude.{◌≡◌, ℕ, ◌<◌, ◌≤◌, ◌⊎◌, ◌↔◌, List, take, length, All, Bool, IsTrue, IfOk, IsErrOf, OnOk, OnErr};
 ghost use Rattle.causal_deps.specs.declared.record.Record.{Record};
 ghost use Rattle.causal_deps.specs.declared.answers.Newest.{Newest as NewestValue};
 ghost use Rattle.abstract_log.specs.Answers.{last_of, newest, places_with};
 ghost use Rattle.flstore_rounds.specs.Epochs.{EpochList, IsPrefix, longer};
 ghost use Rattle.flstore_rounds.specs.Heads.{IsHead, IsTrueMark, IsTrueOf, head, mark_at};
-ghost use Rattle.tag_indexer.specs.Rows.{home, newest_row, tagged_places};
+ghost use Rattle.tag_indexer.specs.Rows.{home, tagged_places};
 ghost use Rattle.tag_indexer.specs.Indexers.{AreBegun, AreOwnRows, IndexerState, empty, newest_found, posted};
 ghost use Rattle.tag_indexer.specs.Indexed.{IsIndexed, IsRowOf, found_in};
 
 use crate::Post;
+use crate::rows::{last_tagged, list_rows, newest_put, put_rows};
+use crate::tag_index::TagIndex;
 use causal_deps::{LastFault, Newest, Place};
 use cz_base::{Lid, Name, NoMemory, Seq};
 use flstore_rounds::{Epochs, head_of};
@@ -24,17 +26,21 @@ pub struct Indexer {
     epochs: Epochs,
     marks: [Lid; 16],
     rows: Vec<Post>,
+    /// Where the rows are found by a key, and by a tag.
+    puts: TagIndex,
+    tagged: TagIndex,
 }
 
 impl Model for Indexer {
-    ghost use Rattle.std.specs.Prelude.{◌≤◌};
+    ghost use Rattle.std.specs.Prelude.{◌≤◌, All};
     ghost use Rattle.tag_indexer.specs.Indexers.{AreKept, IndexerState};
+    ghost use Rattle.tag_indexer.specs.TagIndexes.{IsRowListed};
 
     ghost Value = { IndexerState };
 
     ghost view = { λ i. record { number = i.number; indexers = i.indexers; pair = record { epochs = i.epochs; marks = i.marks }; rows = i.rows.items } };
 
-    ghost invariant = { λ i. (1 ≤ i.indexers) × AreKept i.number i.indexers (record { epochs = i.epochs; marks = i.marks }) i.rows.items };
+    ghost invariant = { λ i. (1 ≤ i.indexers) × AreKept i.number i.indexers (record { epochs = i.epochs; marks = i.marks }) i.rows.items × All (IsRowListed i.number i.indexers i.puts i.tagged) i.rows.items };
 }
 
 impl Indexer {
@@ -52,6 +58,8 @@ impl Indexer {
             epochs,
             marks: [1; 16],
             rows: Vec::new(alloc),
+            puts: TagIndex::new(alloc),
+            tagged: TagIndex::new(alloc),
         }
     }
 
@@ -77,7 +85,19 @@ impl Indexer {
         // Its pair stays true, where the mark is true by the maintainer's list.
         ensures truth { OnOk result ((t : EpochList) (placed : ℕ → Bool) → IsTrueOf t placed self.old.pair → IsTrueMark t epochs.now (λ p. IsTrue (placed p)) m upto → IsTrueOf t placed self.new.pair) }
     {
-        Err(NoMemory)
+        list_rows(
+            &mut self.puts,
+            &mut self.tagged,
+            &rows,
+            self.number,
+            self.indexers,
+        )?;
+        self.rows.reserve(rows.len())?;
+        self.epochs.take_longer(epochs)?;
+        put_rows(&mut self.rows, rows, self.number, self.indexers);
+        let at = m as usize;
+        self.marks[at] = self.marks[at].max(upto);
+        Ok(())
     }
 
     /// Up to where maintainer m has posted: below this position.
@@ -109,7 +129,7 @@ impl Indexer {
         if covered < s {
             return Newest::Behind { covered };
         }
-        match newest_put(&self.rows, key, s) {
+        match newest_put(&self.rows, &self.puts, key, s) {
             Some(lid) => Newest::Found { lid },
             None => Newest::Absent,
         }
@@ -129,19 +149,16 @@ impl Indexer {
         if covered < s {
             return Err(LastFault::Behind { covered });
         }
-        Err(LastFault::NoMemory)
-    }
-}
-
-// The last put of the key at or below s.
-fn newest_put(rows: &[Post], key: &Name, s: Lid) -> Option<Lid>
-    ensures { MatchOption result (newest_row rows.now key.now s ≡ 0) (λ p. (1 ≤ p) × (p ≡ newest_row rows.now key.now s)) }
-{
-    let mut newest = 0;
-    for row in rows {
-        if row.put && row.place.lid <= s && row.has_tag(key) {
-            newest = newest.max(row.place.lid);
+        match last_tagged(
+            *self.rows.allocator(),
+            &self.rows,
+            &self.tagged,
+            tag,
+            count,
+            s,
+        ) {
+            Ok(places) => Ok(places),
+            Err(_) => Err(LastFault::NoMemory),
         }
     }
-    if newest == 0 { None } else { Some(newest) }
 }

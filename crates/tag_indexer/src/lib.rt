@@ -3,6 +3,8 @@
 
 mod indexer;
 mod post;
+mod rows;
+mod tag_index;
 
 pub use indexer::Indexer;
 pub use post::{Post, home};

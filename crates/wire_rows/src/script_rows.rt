@@ -12,7 +12,7 @@ struct Refused {
     cause: Cause,
 }
 
-const REFUSED: [Refused; 54] = [
+const REFUSED: [Refused; 71] = [
     Refused {
         script: b"",
         line: 1,
@@ -84,7 +84,7 @@ const REFUSED: [Refused; 54] = [
         cause: Cause::WrongWords,
     },
     Refused {
-        script: b"# a comment\n\nchariots 1\ndatacentres 1\nround 1\nsession A\nget x\nget x\n",
+        script: b"# a comment\n\nchariots 1\ndatacentres 1\nround 1\nsteps\nmark A\nmark A\n",
         line: 7,
         cause: Cause::NotBuilt,
     },
@@ -159,11 +159,6 @@ const REFUSED: [Refused; 54] = [
         cause: Cause::BadDatacentre,
     },
     Refused {
-        script: b"chariots 1\ndatacentres 1\nround 1\nstages A 16 16 16 16 2 16 16\n",
-        line: 4,
-        cause: Cause::OutOfRange,
-    },
-    Refused {
         script: b"chariots 1\ndatacentres 1\nround 1\nstages A 17 1 1 1 1 1 1\n",
         line: 4,
         cause: Cause::OutOfRange,
@@ -184,7 +179,7 @@ const REFUSED: [Refused; 54] = [
         cause: Cause::OutOfPlace,
     },
     Refused {
-        script: b"chariots 1\ndatacentres 1\nround 1\nsteps\npost A\n",
+        script: b"chariots 1\ndatacentres 1\nround 1\nsteps\naddmaintainer A\n",
         line: 5,
         cause: Cause::NotBuilt,
     },
@@ -283,6 +278,96 @@ const REFUSED: [Refused; 54] = [
         line: 5,
         cause: Cause::OutOfRange,
     },
+    Refused {
+        script: b"chariots 1\ndatacentres 1\nround 1\nsession A\nget\n",
+        line: 5,
+        cause: Cause::WrongWords,
+    },
+    Refused {
+        script: b"chariots 1\ndatacentres 1\nround 1\nsession A\nget a/b\n",
+        line: 5,
+        cause: Cause::BadName,
+    },
+    Refused {
+        script: b"chariots 1\ndatacentres 1\nround 1\nsession A\ntx\n",
+        line: 5,
+        cause: Cause::WrongWords,
+    },
+    Refused {
+        script: b"chariots 1\ndatacentres 1\nround 1\nsession A\ntx a a a a a a a a a a a a a a a a a\n",
+        line: 5,
+        cause: Cause::WrongWords,
+    },
+    Refused {
+        script: b"chariots 1\ndatacentres 1\nround 1\nsession A\ntx a b/ c=\n",
+        line: 5,
+        cause: Cause::BadName,
+    },
+    Refused {
+        script: b"chariots 1\ndatacentres 1\nround 1\nsession A\nlast a\n",
+        line: 5,
+        cause: Cause::WrongWords,
+    },
+    Refused {
+        script: b"chariots 1\ndatacentres 1\nround 1\nsession A\nlast a 0\n",
+        line: 5,
+        cause: Cause::OutOfRange,
+    },
+    Refused {
+        script: b"chariots 1\ndatacentres 1\nround 1\nsession A\nlast a 65\n",
+        line: 5,
+        cause: Cause::OutOfRange,
+    },
+    Refused {
+        script: b"chariots 1\ndatacentres 1\nround 1\nsession A\nlast a/ x\n",
+        line: 5,
+        cause: Cause::BadName,
+    },
+    Refused {
+        script: b"chariots 1\ndatacentres 1\nround 1\nstages A 1 1 1 1 0 1 1\n",
+        line: 4,
+        cause: Cause::OutOfRange,
+    },
+    Refused {
+        script: b"chariots 1\ndatacentres 1\nround 1\nstages A 1 1 1 1 17 1 1\n",
+        line: 4,
+        cause: Cause::OutOfRange,
+    },
+    Refused {
+        script: b"chariots 1\ndatacentres 1\nround 1\nsteps\npost A 0\n",
+        line: 5,
+        cause: Cause::WrongWords,
+    },
+    Refused {
+        script: b"chariots 1\ndatacentres 1\nround 1\nsteps\npost A 16 0\n",
+        line: 5,
+        cause: Cause::OutOfRange,
+    },
+    Refused {
+        script: b"chariots 1\ndatacentres 1\nround 1\nsteps\npost A 0 16\n",
+        line: 5,
+        cause: Cause::OutOfRange,
+    },
+    Refused {
+        script: b"chariots 1\ndatacentres 1\nround 1\nsteps\nfloor A 0\n",
+        line: 5,
+        cause: Cause::OutOfRange,
+    },
+    Refused {
+        script: b"chariots 1\ndatacentres 1\nround 1\nsteps\nfloor A 4294967296\n",
+        line: 5,
+        cause: Cause::OutOfRange,
+    },
+    Refused {
+        script: b"chariots 1\ndatacentres 1\nround 1\nsteps\nfloor 1 A\n",
+        line: 5,
+        cause: Cause::BadDatacentre,
+    },
+    Refused {
+        script: b"chariots 1\ndatacentres 1\nround 1\nsteps\ncollect A 16\n",
+        line: 5,
+        cause: Cause::OutOfRange,
+    },
 ];
 
 fn refuses(rt: &impl Abort, alloc: Global, row: &Refused) {
@@ -367,6 +452,32 @@ fn a_body_of_1025_bytes_is_bad(rt: HostRuntime) -> Result<(), Fail> {
     Ok(())
 }
 
+const LOOK_UPS: &[u8] =
+    b"chariots 1\ndatacentres 1\nround 1\nsession A\nget k.1\ntx a b a\nlast tag. 64\nsteps\nend\n";
+
+// How many bytes the key or tag of a look-up has, and how many keys or places it asks for.
+fn asks(command: &Command) -> (usize, usize) {
+    match command {
+        Command::Get { key } => (key.as_bytes().len(), 1),
+        Command::Tx { keys } => (0, keys.len()),
+        Command::Last { tag, count } => (tag.as_bytes().len(), *count as usize),
+        _ => (0, 0),
+    }
+}
+
+#[test]
+fn look_ups_are_read(rt: HostRuntime) -> Result<(), Fail> {
+    let script = read_script(rt.alloc(), LOOK_UPS)?;
+    let mut asked = Vec::new(rt.alloc());
+    for plan in &script.workload.sessions {
+        for command in &plan.commands {
+            asked.push(asks(command))?;
+        }
+    }
+    assert_eq!(rt; asked.as_slice(), [(3, 1), (0, 3), (4, 64)].as_slice());
+    Ok(())
+}
+
 // The lines of 64 sessions, and then some text.
 fn after_64_sessions(alloc: Global, text: &[u8]) -> Result<Vec<u8>, Fail> {
     let mut script = Vec::from_slice(alloc, b"chariots 1\ndatacentres 1\nround 1\n")?;
@@ -407,7 +518,7 @@ fn the_65th_session_is_refused(rt: HostRuntime) -> Result<(), Fail> {
 }
 
 const EACH_TURN: &[u8] =
-    b"chariots 1\ndatacentres 3\nround 4\nstages B 2 3 4 5 1 6 16\nsession C\nput k.1 =v\nsteps\nclient 0\nflush A 0\npass B 1 15\nstamp C 2\ntoken A\nplace A 3 4\ngossip A 5 6\nlearn A\nsend A 7 C\ndeliver A B 1 8\nlose C A 64\ncopy B C 9\nend\n";
+    b"chariots 1\ndatacentres 3\nround 4\nstages B 2 3 4 5 16 6 16\nsession C\nput k.1 =v\nsteps\nclient 0\nflush A 0\npass B 1 15\nstamp C 2\ntoken A\nplace A 3 4\ngossip A 5 6\npost B 7 15\nlearn A\nsend A 7 C\ndeliver A B 1 8\nlose C A 64\ncopy B C 9\nfloor C 4294967295\ncollect A 9\nend\n";
 
 fn datacentre(number: u32) -> DcId {
     DcId::new(number).unwrap_or(DcId::FIRST)
@@ -425,6 +536,7 @@ fn each_turn_is_read(rt: HostRuntime) -> Result<(), Fail> {
         Step::Token { d: a },
         Step::Place { d: a, q: 3, m: 4 },
         Step::Gossip { d: a, m: 5, k: 6 },
+        Step::Post { d: b, m: 7, i: 15 },
         Step::Learn { d: a },
         Step::Send { d: a, k: 7, e: c },
         Step::Deliver {
@@ -435,14 +547,22 @@ fn each_turn_is_read(rt: HostRuntime) -> Result<(), Fail> {
         },
         Step::Lose { d: c, e: a, k: 64 },
         Step::Copy { d: b, e: c, k: 9 },
+        Step::Floor {
+            d: c,
+            p: 4294967295,
+        },
+        Step::Collect { d: a, m: 9 },
     ];
     assert_eq!(rt; script.steps.as_slice(), steps.as_slice());
     assert_eq!(rt; script.workload.dcs, 3);
-    let mut receivers = Vec::new(rt.alloc());
+    let mut members = Vec::new(rt.alloc());
     for sizes in &script.sizes {
-        receivers.push((sizes.batchers, sizes.receivers))?;
+        members.push((sizes.batchers, sizes.indexers, sizes.receivers))?;
     }
-    assert_eq!(rt; receivers.as_slice(), [(1, 1), (2, 16), (1, 1)].as_slice());
+    assert_eq!(rt;
+        members.as_slice(),
+        [(1, 1, 1), (2, 16, 16), (1, 1, 1)].as_slice()
+    );
     Ok(())
 }
 

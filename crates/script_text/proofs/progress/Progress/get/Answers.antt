@@ -1,0 +1,5 @@
+use Rattle.script_text.proofs.MeaningLemmas.{get_line-read}
+use Rattle.script_text.proofs.progress.Progress.get.Goals as goal
+
+pub returns : goal.returns
+returns c = rw (get_line-read c.args.self.now c.args.words.now c.in_ok-key.key c.name.new.self c.in_ok-key.ensures) c.put_command.ensures

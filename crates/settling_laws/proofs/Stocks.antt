@@ -1,0 +1,157 @@
+-- What a sender reads: the records of its maintainers by rising position, and the first that it has to tell.
+use Rattle.std.proofs.Common.{◌≡◌, ◌≢◌, ◌⊎◌, ℕ, zero, suc, ◌+◌, ◌-◌, ◌%◌, mod-lt, ◌<◌, ◌≤◌, true, false, Bool, cond, ltb, eqb, ◌&&◌, List, [], ◌∷◌, ◌++◌, length, map, take, filter, get_or, refl, ap, sym, subst, ◌∙◌, inl, inr, arith, Some, slice_get}
+use Rattle.std.specs.List.{All, Contains, flat_map, fold, sum_by}
+use Rattle.std.proofs.lemmas.List.Elements.{All-nil, All-cons, All-head, All-tail, All-append, All-get_or, All-contains}
+use Rattle.std.proofs.lemmas.List.Sums.{sum_by-cons}
+use Rattle.std.proofs.lemmas.Option.{get_or_from_slice_get, same_Some}
+use Rattle.std.proofs.lemmas.Bool.{cases_lt, cases_eq, cases_Bool, cond_both, cond-true, cond-false, ltb-true, ltb-false, and_parts, and_from, eq-eqb, lt-ltb, eqb-true, eqb-false}
+use Rattle.causal_deps.specs.declared.record.Record.{Record}
+use Rattle.maintainer.specs.declared.slot.Slot.{Slot}
+use Rattle.maintainer.specs.Maintainers.{MaintainerState, IsEntryOf, times_in, times, times_filled}
+use Rattle.sender_receiver.specs.Choosing.{is_new, first_new}
+use Rattle.sender_receiver.specs.Stocks.{Stocked, records_in}
+use Rattle.stage_world.specs.Stages.{filled}
+use Rattle.stage_world.specs.StandsFor.{gone_times}
+use Rattle.stage_world.specs.MoreTurns.{stocked, sorted_in, stock_of}
+use Rattle.stage_world.proofs.ListLemmas.{Contains-head, Contains-tail, Contains-cases}
+
+-- positions do not fall along the list
+abbrev pub IsRising : List Stocked → Type 0
+IsRising [] = Unit {0}
+IsRising (x ∷ xs) = All (λ y. x.lid ≤ y.lid) xs × IsRising xs
+
+pub All-sorted_in : (P : Stocked → Type 0) (e : Stocked) (es : List Stocked) → P e → All P es → All P (sorted_in e es)
+All-sorted_in P e [] here all = All-cons P e [] here all
+All-sorted_in P e (x ∷ xs) here all = cond_both (ltb e.lid x.lid) (e ∷ x ∷ xs) (x ∷ sorted_in e xs) (All P) (λ _. All-cons P e (x ∷ xs) here all)
+    (λ _. All-cons P x (sorted_in e xs) (All-head P x xs all) (All-sorted_in P e xs here (All-tail P x xs all)))
+
+rising_in : (e : Stocked) (es : List Stocked) → IsRising es → IsRising (sorted_in e es)
+rising_in e [] rise = (All-nil (λ (y : Stocked). e.lid ≤ y.lid), tt)
+rising_in e (x ∷ xs) rise = cond_both (ltb e.lid x.lid) (e ∷ x ∷ xs) (x ∷ sorted_in e xs) IsRising
+    (λ below.
+    let less : e.lid < x.lid = ltb-true e.lid x.lid below in
+    (All-cons (λ (y : Stocked). e.lid ≤ y.lid) x xs (omega arith) (λ k d within. omega (arith, less, rise.0 k d within)), rise))
+    (λ above. (All-sorted_in (λ (y : Stocked). x.lid ≤ y.lid) e xs (ltb-false e.lid x.lid above) rise.0, rising_in e xs rise.1))
+
+rising_all : (es : List (Slot Record)) (sorted : List Stocked) → IsRising sorted → IsRising (fold (λ ys e. sorted_in (stocked e) ys) sorted es)
+rising_all [] sorted rise = rise
+rising_all (e ∷ es) sorted rise = rising_all es (sorted_in (stocked e) sorted) (rising_in (stocked e) sorted rise)
+
+in_sorted : (e : Stocked) (es : List Stocked) → Contains (sorted_in e es) e
+in_sorted e [] = Contains-head e []
+in_sorted e (x ∷ xs) = cond_both (ltb e.lid x.lid) (e ∷ x ∷ xs) (x ∷ sorted_in e xs) (λ ys. Contains ys e) (λ _. Contains-head e (x ∷ xs)) (λ _. Contains-tail x e (sorted_in e xs) (in_sorted e xs))
+
+stays_in : (e y : Stocked) (es : List Stocked) → Contains es y → Contains (sorted_in e es) y
+stays_in e y [] has = absurd (omega (arith, has.1))
+stays_in e y (x ∷ xs) has = cond_both (ltb e.lid x.lid) (e ∷ x ∷ xs) (x ∷ sorted_in e xs) (λ ys. Contains ys y) (λ _. Contains-tail e y (x ∷ xs) has)
+    (λ _. elim (Contains-cases x y xs has) [
+      | inl same ↦ subst (λ v. Contains (x ∷ sorted_in e xs) v) same (Contains-head x (sorted_in e xs))
+      | inr later ↦ Contains-tail x y (sorted_in e xs) (stays_in e y xs later)
+    ])
+
+all_stay : (es : List (Slot Record)) (sorted : List Stocked) (y : Stocked) → Contains sorted y → Contains (fold (λ ys e. sorted_in (stocked e) ys) sorted es) y
+all_stay [] sorted y has = has
+all_stay (e ∷ es) sorted y has = all_stay es (sorted_in (stocked e) sorted) y (stays_in (stocked e) y sorted has)
+
+all_come : (es : List (Slot Record)) (sorted : List Stocked) (e : Slot Record) → Contains es e → Contains (fold (λ ys x. sorted_in (stocked x) ys) sorted es) (stocked e)
+all_come [] sorted e has = absurd (omega (arith, has.1))
+all_come (x ∷ xs) sorted e has = elim (Contains-cases x e xs has) [
+  | inl same ↦ all_stay xs (sorted_in (stocked x) sorted) (stocked e) (subst (λ v. Contains (sorted_in (stocked x) sorted) (stocked v)) same (in_sorted (stocked x) sorted))
+  | inr later ↦ all_come xs (sorted_in (stocked x) sorted) e later
+]
+
+pub All-stocked : (P : Stocked → Type 0) (sorted : List Stocked) (es : List (Slot Record)) → All P sorted → All (λ e. P (stocked e)) es → All P (fold (λ ys e. sorted_in (stocked e) ys) sorted es)
+All-stocked P sorted [] had all = had
+All-stocked P sorted (e ∷ es) had all =
+    All-stocked P (sorted_in (stocked e) sorted) es (All-sorted_in P (stocked e) sorted (All-head (λ x. P (stocked x)) e es all) had) (All-tail (λ x. P (stocked x)) e es all)
+
+-- the entries of a sender's maintainers
+abbrev entries_for : List (MaintainerState Record) → ℕ → ℕ → List (Slot Record)
+entries_for ms k n = flat_map (λ m. cond (eqb (m.number % n) k) m.entries []) ms
+
+in_left : {X : Type 0} (xs ys : List X) (x : X) → Contains xs x → Contains (xs ++ ys) x
+in_left [] ys x has = absurd (omega (arith, has.1))
+in_left (y ∷ xs) ys x has = elim (Contains-cases y x xs has) [
+  | inl same ↦ subst (Contains (y ∷ xs ++ ys)) same (Contains-head y (xs ++ ys))
+  | inr later ↦ Contains-tail y x (xs ++ ys) (in_left xs ys x later)
+]
+
+in_right : {X : Type 0} (xs ys : List X) (x : X) → Contains ys x → Contains (xs ++ ys) x
+in_right [] ys x has = has
+in_right (y ∷ xs) ys x has = Contains-tail y x (xs ++ ys) (in_right xs ys x has)
+
+-- an entry of a maintainer is one of its sender's
+entry_chosen : (ms : List (MaintainerState Record)) (n : ℕ) (m : MaintainerState Record) (e : Slot Record) → Contains ms m → Contains m.entries e → Contains (entries_for ms (m.number % n) n) e
+entry_chosen [] n m e has_m has_e = absurd (omega (arith, has_m.1))
+entry_chosen (x ∷ xs) n m e has_m has_e = elim (Contains-cases x m xs has_m) [
+  | inl same ↦ in_left (cond (eqb (x.number % n) (m.number % n)) x.entries []) (entries_for xs (m.number % n) n) e
+      (subst (λ (v : MaintainerState Record). Contains (cond (eqb (v.number % n) (m.number % n)) v.entries []) e) (sym same)
+      (subst (λ es. Contains es e) (sym (cond-true (eqb (m.number % n) (m.number % n)) m.entries [] (eq-eqb (m.number % n) (m.number % n) refl))) has_e))
+  | inr later ↦ in_right (cond (eqb (x.number % n) (m.number % n)) x.entries []) (entries_for xs (m.number % n) n) e (entry_chosen xs n m e later has_e)
+]
+
+-- an entry at p, where p is among the positions
+entry_at : (p : ℕ) (es : List (Slot Record)) → 1 ≤ times_in p es → (e : Slot Record) × Contains es e × (e.lid ≡ p)
+entry_at p [] some = absurd (omega arith)
+entry_at p (x ∷ xs) some = at (cases_eq x.lid p) (λ rest. entry_at p xs rest)
+  where
+    at : (x.lid ≡ p) ⊎ (x.lid ≡ p → ⊥) → (1 ≤ times_in p xs → (e : Slot Record) × Contains xs e × (e.lid ≡ p)) → (e : Slot Record) × Contains (x ∷ xs) e × (e.lid ≡ p)
+    at (inl same) later = (x, Contains-head x xs, same)
+    at (inr other) later =
+        let none : cond (eqb x.lid p) 1 0 ≡ 0 = cond_both (eqb x.lid p) 1 0 (λ (n : ℕ). n ≡ 0) (λ is. absurd (other (eqb-true x.lid p is))) (λ _. refl) in
+        let rest = later (omega (arith, some, sum_by-cons (λ (y : Slot Record). cond (eqb y.lid p) 1 0) x xs, none)) in
+        (rest.0, Contains-tail x rest.0 xs rest.1, rest.2)
+
+-- a position that is filled and not gone has an entry at some maintainer
+pub some_entry : (p : ℕ) (ms : List (MaintainerState Record)) → 1 ≤ filled p ms → gone_times p ms ≡ 0 → (m : MaintainerState Record) × Contains ms m × ((e : Slot Record) × Contains m.entries e × (e.lid ≡ p))
+some_entry p [] some none = absurd (omega arith)
+some_entry p (m ∷ ms) some none = at (cases_lt 0 (times_in p m.entries)) (λ rest. some_entry p ms rest (omega (arith, none, sum_by-cons (λ (x : MaintainerState Record). times p x.gone) m ms)))
+  where
+    at : (0 < times_in p m.entries) ⊎ (times_in p m.entries ≤ 0) → (1 ≤ filled p ms → (x : MaintainerState Record) × Contains ms x × ((e : Slot Record) × Contains x.entries e × (e.lid ≡ p)))
+        → (x : MaintainerState Record) × Contains (m ∷ ms) x × ((e : Slot Record) × Contains x.entries e × (e.lid ≡ p))
+    at (inl here) later = (m, Contains-head m ms, entry_at p m.entries (omega arith))
+    at (inr none_here) later =
+        let rest = later (omega (arith, some, none, none_here, sum_by-cons (times_filled p) m ms, sum_by-cons (λ (x : MaintainerState Record). times p x.gone) m ms)) in
+        (rest.0, Contains-tail m rest.0 ms rest.1, rest.2)
+
+-- The stock of the sender of a maintainer has its entries, and rises.
+pub stock_has : (ms : List (MaintainerState Record)) (n : ℕ) (m : MaintainerState Record) (e : Slot Record) → Contains ms m → Contains m.entries e → Contains (stock_of ms (m.number % n) n) (stocked e)
+stock_has ms n m e has_m has_e = all_come (entries_for ms (m.number % n) n) [] e (entry_chosen ms n m e has_m has_e)
+
+pub stock_rises : (ms : List (MaintainerState Record)) (k n : ℕ) → IsRising (stock_of ms k n)
+stock_rises ms k n = rising_all (entries_for ms k n) [] tt
+
+chosen : (P : Slot Record → Type 0) (ms : List (MaintainerState Record)) (k n : ℕ) → All (λ m. All P m.entries) ms → All P (entries_for ms k n)
+chosen P [] k n all = All-nil P
+chosen P (m ∷ ms) k n all = All-append P (cond (eqb (m.number % n) k) m.entries []) (entries_for ms k n)
+    (cond_both (eqb (m.number % n) k) m.entries [] (All P) (λ _. All-head (λ (x : MaintainerState Record). All P x.entries) m ms all) (λ _. All-nil P)) (chosen P ms k n (All-tail (λ (x : MaintainerState Record). All P x.entries) m ms all))
+
+pub stock_all : (P : Stocked → Type 0) (ms : List (MaintainerState Record)) (k n : ℕ) → All (λ m. All (λ e. P (stocked e)) m.entries) ms → All P (stock_of ms k n)
+stock_all P ms k n all = All-stocked P [] (entries_for ms k n) (All-nil P) (chosen (λ e. P (stocked e)) ms k n all)
+
+-- The first new record of a stock is told: whatever is new up to its position is that record.
+pub first_told : (d known : ℕ) (xs : List Stocked) (q : Stocked) → IsRising xs → Contains xs q → is_new d known q.rec ≡ true
+    → ((y : Stocked) → Contains xs y → y.lid ≤ q.lid → is_new d known y.rec ≡ true → y.rec ≡ q.rec) → Contains (first_new d known (records_in xs)) q.rec
+first_told d known [] q rise has new only = absurd (omega (arith, has.1))
+first_told d known (x ∷ xs) q rise has new only = at (is_new d known x.rec) refl (λ later. first_told d known xs q rise.1 later new (λ y is. only y (Contains-tail x y xs is)))
+  where
+    up_to : x.lid ≤ q.lid
+    up_to = elim (Contains-cases x q xs has) [
+      | inl same ↦ omega (arith, ap (λ (y : Stocked). y.lid) same)
+      | inr later ↦ All-contains (λ (y : Stocked). x.lid ≤ y.lid) xs q rise.0 later
+    ]
+
+    at : (b : Bool) → is_new d known x.rec ≡ b → (Contains xs q → Contains (first_new d known (records_in xs)) q.rec) → Contains (take 16 (cond (is_new d known x.rec) (x.rec ∷ filter (is_new d known) (records_in xs)) (filter (is_new d known) (records_in xs)))) q.rec
+    at true is later =
+        let same : x.rec ≡ q.rec = only x (Contains-head x xs) up_to is in
+        subst (λ rs. Contains (take 16 rs) q.rec) (sym (cond-true (is_new d known x.rec) (x.rec ∷ filter (is_new d known) (records_in xs)) (filter (is_new d known) (records_in xs)) is))
+        (subst (λ r. Contains (take 16 (r ∷ filter (is_new d known) (records_in xs))) q.rec) (sym same) (Contains-head q.rec (take 15 (filter (is_new d known) (records_in xs)))))
+    at false is later =
+        subst (λ rs. Contains (take 16 rs) q.rec) (sym (cond-false (is_new d known x.rec) (x.rec ∷ filter (is_new d known) (records_in xs)) (filter (is_new d known) (records_in xs)) is))
+        (elim (Contains-cases x q xs has) [
+          | inl same ↦ absurd (true_false (sym new ∙ ap (λ (y : Stocked). is_new d known y.rec) (sym same) ∙ is))
+          | inr there ↦ later there
+        ])
+      where
+        true_false : true ≡ false → ⊥
+        true_false e = absurd (cc)

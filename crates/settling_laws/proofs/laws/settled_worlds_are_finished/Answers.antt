@@ -1,0 +1,5 @@
+use Rattle.settling_laws.proofs.Settled.{settled_is_finished}
+use Rattle.settling_laws.proofs.laws.settled_worlds_are_finished.Goals as goal
+
+pub returns : goal.returns
+returns c = λ w z steps lawful stands settles. settled_is_finished w z steps lawful stands settles

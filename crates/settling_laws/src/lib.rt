@@ -1,0 +1,13 @@
+//! Settling ends, and leaves every command answered and every log whole: laws over the plain data of `stage_world`.
+//!
+//! There is no code here: the crate has definitions and laws. The turns of settling are a function of the stages
+//! (`Settling` in `stage_world`); here stands what they do. A local round of a datacentre brings all that may go there into the
+//! log, places it, and tells every maintainer, indexer and the table of it. So each further round answers a command or finds
+//! a key at every session that waits, and the rounds of answering end.
+#![tactic(auto)]
+
+mod laws;
+
+pub use laws::{
+    answering_ends, rounds_settle_a_datacentre, settled_worlds_are_finished, settling_ends, telling_ends,
+};

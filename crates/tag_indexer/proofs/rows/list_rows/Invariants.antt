@@ -1,0 +1,10 @@
+use Rattle.std.proofs.Common.{All, take}
+use Rattle.tag_indexer.specs.TagIndexes.{IsRowListed, ListsAll}
+use Rattle.tag_indexer.proofs.rows.list_rows.Given as goal
+
+abbrev pub invariant-loop-row : goal.invariant-loop-row
+invariant-loop-row l = record {
+  listed : All (IsRowListed l.number l.indexers l.puts l.tagged) (take l.row-index l.row-items);
+  puts : ListsAll l.initial.puts l.puts;
+  tagged : ListsAll l.initial.tagged l.tagged;
+}
