@@ -16,12 +16,13 @@ use Rattle.abstract_log.specs.Worlds.{log_of, standing_of}
 use Rattle.flstore_rounds.specs.Heads.{head}
 use Rattle.toid_filter.proofs.Tests.{any_gives}
 use Rattle.token_queue.specs.Queues.{TokenState}
-use Rattle.stage_world.specs.Stages.{Datacentre, Session, Indexer, no_indexer, indexer_at}
+use Rattle.tag_indexer.specs.Indexers.{IndexerState}
+use Rattle.stage_world.specs.Stages.{Datacentre, Session, no_indexer, indexer_at}
 use Rattle.stage_world.specs.StandsFor.{StandsAt, IsAt, IsAsFar}
 use Rattle.stage_world.specs.MoreTurns.{home_of}
 use Rattle.stage_world.specs.ClientTurns.{top_for}
 use Rattle.stage_world.specs.Settling.{clients, local_round, is_unanswered, has_unanswered}
-use Rattle.stage_world.proofs.LookUps.{find_tells}
+use Rattle.tag_indexer.proofs.TaggedLemmas.{find_tells}
 use Rattle.settling_laws.specs.Rounds.{IsAllTold, work_of, left_to, left_at}
 use Rattle.settling_laws.proofs.Live.{IsLive, turned, walked, stands_at}
 use Rattle.settling_laws.proofs.Walks.{Makes, makes_none, makes_more, makes_append, makes_turn}
@@ -42,17 +43,17 @@ pub left_none : (x : Session) → length x.commands ≤ x.standing.answered → 
 left_none x done = omega (arith, ap (sum_by work_of) (drop_all x.standing.answered x.commands done))
 
 -- what holds of every indexer holds of a tag's
-home_has : (P : Indexer → Type 0) (z : Datacentre) (tag : List ℕ) → 0 < length z.indexers → ((i : ℕ) → i < length z.indexers → (indexer_at z.indexers i).number ≡ i) → All P z.indexers → P (home_of z tag)
-home_has P z tag some numbered all = at (find (λ (i : Indexer). eqb i.number (sum tag % length z.indexers)) z.indexers) refl
+home_has : (P : IndexerState → Type 0) (z : Datacentre) (tag : List ℕ) → 0 < length z.indexers → ((i : ℕ) → i < length z.indexers → (indexer_at z.indexers i).number ≡ i) → All P z.indexers → P (home_of z tag)
+home_has P z tag some numbered all = at (find (λ (i : IndexerState). eqb i.number (sum tag % length z.indexers)) z.indexers) refl
   where
-    at : (o : Option Indexer) → find (λ (i : Indexer). eqb i.number (sum tag % length z.indexers)) z.indexers ≡ o → P (home_of z tag)
+    at : (o : Option IndexerState) → find (λ (i : IndexerState). eqb i.number (sum tag % length z.indexers)) z.indexers ≡ o → P (home_of z tag)
     at None is =
         let k : ℕ = sum tag % length z.indexers in
         let inside : k < length z.indexers = mod-lt (sum tag) some in
-        absurd (none_found (λ (i : Indexer). eqb i.number (sum tag % length z.indexers)) z.indexers k no_indexer is inside (eq-eqb (indexer_at z.indexers k).number k (numbered k inside)))
-    at (Some i) is = subst P (sym (found_is i is)) (All-contains P z.indexers i all (find_tells (λ (n : Indexer). eqb n.number (sum tag % length z.indexers)) z.indexers i is).0)
+        absurd (none_found (λ (i : IndexerState). eqb i.number (sum tag % length z.indexers)) z.indexers k no_indexer is inside (eq-eqb (indexer_at z.indexers k).number k (numbered k inside)))
+    at (Some i) is = subst P (sym (found_is i is)) (All-contains P z.indexers i all (find_tells (λ (n : IndexerState). eqb n.number (sum tag % length z.indexers)) z.indexers i is).0)
       where
-        found_is : (n : Indexer) → find (λ (i : Indexer). eqb i.number (sum tag % length z.indexers)) z.indexers ≡ Some n → home_of z tag ≡ n
+        found_is : (n : IndexerState) → find (λ (i : IndexerState). eqb i.number (sum tag % length z.indexers)) z.indexers ≡ Some n → home_of z tag ≡ n
         found_is n e = ap (λ o. unwrap_or o no_indexer) e
 
 -- where all is told, nothing holds up a session
@@ -74,7 +75,7 @@ clear_where_told load d z l told x far = (
     top_is = told.heads (x.number % z.first) _ (omega (arith, mod-lt x.number h.served.0, h.served.1))
 
     covered : (tag : List ℕ) → head (home_of z tag).pair ≡ z.token.last
-    covered tag = home_has (λ (i : Indexer). head i.pair ≡ z.token.last) z tag (omega (arith, h.members.ranges.indexers.0)) h.numbered told.covered
+    covered tag = home_has (λ (i : IndexerState). head i.pair ≡ z.token.last) z tag (omega (arith, h.members.ranges.indexers.0)) h.numbered told.covered
 
     seen : x.standing.floor ≤ length (log_of l.standing.world d)
     seen =

@@ -1,20 +1,18 @@
 -- In a rounded datacentre no record waits that may go into the log.
-use Rattle.std.proofs.Common.{◌≡◌, ◌≢◌, ◌⊎◌, ℕ, zero, suc, ◌+◌, ◌<◌, ◌≤◌, true, false, Bool, cond, eqb, leb, ltb, ◌&&◌, List, [], ◌∷◌, length, get_or, refl, ap, sym, subst, ◌∙◌, inl, inr, arith, Some, None, Option, slice_get}
-use Rattle.std.specs.List.{All, Contains, sum_by}
-use Rattle.std.proofs.lemmas.List.Elements.{All-get_or}
+use Rattle.std.proofs.Common.{◌≡◌, ◌≢◌, ℕ, ◌+◌, ◌<◌, ◌≤◌, true, false, Bool, cond, leb, ◌&&◌, List, length, get_or, refl, ap, sym, subst, ◌∙◌, inl, inr, arith, Some, None}
+use Rattle.std.specs.List.{Contains, sum_by}
 use Rattle.std.proofs.lemmas.Option.{same_Some}
-use Rattle.std.proofs.lemmas.Bool.{cases_lt, cond_both, cond-true, and_from, le-leb, eqb-true, eq-eqb}
+use Rattle.std.proofs.lemmas.Bool.{cases_lt, cond-true, and_from, le-leb, eqb-true}
 use Rattle.causal_deps.specs.declared.record.Record.{Record}
 use Rattle.causal_deps.specs.declared.record.Item.{Item}
 use Rattle.causal_deps.specs.declared.record.Item.TheVariants.{Local, External}
 use Rattle.causal_deps.specs.Logs.{count_of, nth_of}
-use Rattle.abstract_log.specs.declared.command.Workload.{Workload}
 use Rattle.abstract_log.specs.declared.world.World.{World}
 use Rattle.abstract_log.specs.Worlds.{log_of, pending_of}
 use Rattle.log_laws.specs.Lawful.{IsLawful}
 use Rattle.toid_filter.specs.Champions.{champion}
-use Rattle.toid_filter.specs.Filters.{FilterState, filter_at, no_filter, has_name, is_passed, is_free, is_held_back, mark_accepted, owns, times_passed, IsSound}
-use Rattle.toid_filter.specs.Sums.{is_named, in_held, in_out, passed}
+use Rattle.toid_filter.specs.Filters.{FilterState, filter_at, no_filter, has_name, is_passed, is_held_back, mark_accepted, owns, times_passed, IsSound}
+use Rattle.toid_filter.specs.Sums.{is_named, in_held, passed}
 use Rattle.toid_filter.proofs.FilterLemmas.{steady_sound}
 use Rattle.toid_filter.proofs.LawsLemmas.{held_waits}
 use Rattle.toid_filter.proofs.Tests.{name_parts}

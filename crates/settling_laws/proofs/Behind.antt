@@ -1,11 +1,11 @@
 -- Worlds later than others: what is known, logged and awaited there.
-use Rattle.std.proofs.Common.{◌≡◌, ◌≢◌, ◌⊎◌, ℕ, zero, suc, ◌+◌, ◌<◌, ◌≤◌, true, false, Bool, not, ◌&&◌, eqb, List, [], ◌∷◌, ◌++◌, length, get_or, set, refl, ap, sym, subst, ◌∙◌, inl, inr, arith, Option, Some, None, option_to_list, append_assoc, append-nil, length-append}
+use Rattle.std.proofs.Common.{◌≡◌, ◌⊎◌, ℕ, ◌+◌, ◌<◌, ◌≤◌, not, ◌&&◌, eqb, List, [], ◌∷◌, ◌++◌, length, refl, ap, sym, subst, ◌∙◌, inl, inr, arith, Some, option_to_list, append_assoc, append-nil, length-append}
 use Rattle.std.specs.List.{All, Contains, filter}
-use Rattle.std.proofs.lemmas.List.{get_or-set_same, get_or-set_other, set_past, length-set}
+use Rattle.std.proofs.lemmas.List.{get_or-set_same}
 use Rattle.std.proofs.lemmas.List.Elements.{All-head, All-tail}
-use Rattle.std.proofs.lemmas.Bool.{cases_lt, cases_eq, cases_Bool, and_parts, eqb-true}
+use Rattle.std.proofs.lemmas.Bool.{cases_Bool, and_parts, eqb-true}
 use Rattle.causal_deps.specs.declared.record.Record.{Record}
-use Rattle.causal_deps.specs.Counts.{IsWithin, entry_of}
+use Rattle.causal_deps.specs.Counts.{IsWithin}
 use Rattle.causal_deps.specs.Logs.{count_of, nth_of, IsReady}
 use Rattle.causal_deps.proofs.Lists.{get_or-set_cases}
 use Rattle.causal_deps.proofs.LogsLemmas.{nth_of_is, nth_of-push, count_of-push_own, records_of-append}
@@ -15,17 +15,17 @@ use Rattle.abstract_log.specs.declared.event.Event.TheVariants.{Submit, Append, 
 use Rattle.abstract_log.specs.declared.script.Step.{Step}
 use Rattle.abstract_log.specs.declared.world.World.{World}
 use Rattle.abstract_log.specs.Runs.{CanAllHappen, after_all}
-use Rattle.abstract_log.specs.Steps.{CanHappen, after, name_before, names_with, names_without}
+use Rattle.abstract_log.specs.Steps.{CanHappen, after, names_with, names_without}
 use Rattle.abstract_log.specs.Worlds.{log_of, table_of, pending_of, record_of}
 use Rattle.abstract_log.proofs.Writing.{IsSomeAnd_is}
 use Rattle.log_laws.specs.Lawful.{IsLawful}
-use Rattle.log_laws.proofs.Growth.{Gains, Grows, grows}
+use Rattle.log_laws.proofs.Growth.{Grows, grows}
 use Rattle.stage_world.specs.Stages.{Stages}
 use Rattle.stage_world.specs.StandsFor.{StandsAt}
 use Rattle.stage_world.specs.Whole.{datacentre_at}
 use Rattle.stage_world.specs.Schedules.{IsStep, IsKept, step_of, after_steps}
 use Rattle.stage_world.proofs.Frames.{grows as tables_grow}
-use Rattle.stage_world.proofs.ReceiveTurn.{names_keep, names_come}
+use Rattle.stage_world.proofs.ReceiveTurn.{names_keep}
 use Rattle.stage_world.proofs.ListLemmas.{Contains-filter}
 use Rattle.stage_world.proofs.AllTurns.{step_kept}
 use Rattle.settling_laws.specs.Rounds.{IsStanding}

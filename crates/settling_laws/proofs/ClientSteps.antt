@@ -18,8 +18,9 @@ use Rattle.flstore_rounds.specs.Heads.{head}
 use Rattle.stage_world.specs.Stages.{Datacentre, Session, batcher_at}
 use Rattle.stage_world.specs.StandsFor.{keys_of}
 use Rattle.stage_world.specs.Turns.{Turned, quiet, at_session, begun, submitted}
+use Rattle.tag_indexer.specs.Rows.{tagged_places}
 use Rattle.stage_world.specs.MoreTurns.{home_of}
-use Rattle.stage_world.specs.ClientTurns.{next_index, looked_up, replied, reading_at, found_more, behind_turn, found_turn, key_turn, reply_with, tagged_places, last_turn, shown_at, waiting_turn, look_turn, open_turn, and_then, top_for, begin_turn}
+use Rattle.stage_world.specs.ClientTurns.{next_index, looked_up, replied, reading_at, found_more, behind_turn, found_turn, key_turn, reply_with, last_turn, shown_at, waiting_turn, look_turn, open_turn, and_then, top_for, begin_turn}
 use Rattle.settling_laws.specs.Rounds.{work_of, left_to}
 use Rattle.settling_laws.proofs.Progress.{HasOpenWrite, GoesOn, Moves, goes_same, drop_next, write_keys}
 

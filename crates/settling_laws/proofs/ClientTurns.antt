@@ -24,7 +24,7 @@ use Rattle.stage_world.specs.StandsFor.{keys_of, numbers_of, IsAsFar, IsPinned}
 use Rattle.stage_world.specs.Turns.{quiet, at_session}
 use Rattle.stage_world.specs.ClientTurns.{open_turn, begin_turn, top_for, client_of, client_turn}
 use Rattle.stage_world.proofs.SessionLemmas.{numbers-at_session}
-use Rattle.stage_world.proofs.LookUps.{find_tells}
+use Rattle.tag_indexer.proofs.TaggedLemmas.{find_tells}
 use Rattle.settling_laws.proofs.Live.{IsLive, stands_at}
 use Rattle.settling_laws.proofs.Progress.{GoesOn, Moves, goes_same}
 use Rattle.settling_laws.proofs.ClientSteps.{IsClear, IsStepOf, still_step, next_step}

@@ -1,40 +1,36 @@
 -- One errand of an exchange: a sender sends, and what it sent is delivered.
-use Rattle.std.proofs.Common.{◌≡◌, ◌≢◌, ◌⊎◌, ℕ, zero, suc, ◌+◌, ◌%◌, ◌<◌, ◌≤◌, true, false, Bool, cond, ltb, List, [], ◌∷◌, ◌++◌, length, map, drop, max, get_or, set, refl, ap, sym, subst, ◌∙◌, inl, inr, arith, Option, Some, None, slice_get}
+use Rattle.std.proofs.Common.{◌≡◌, ◌≢◌, ℕ, suc, ◌%◌, ◌<◌, ◌≤◌, cond, ltb, List, [], ◌∷◌, ◌++◌, length, map, drop, get_or, set, refl, ap, sym, subst, ◌∙◌, inl, inr, arith, Some}
 use Rattle.std.specs.List.{All, Contains}
 use Rattle.std.specs.Option.{option_map_or}
 use Rattle.std.proofs.lemmas.List.{get_or-set_same, get_or-set_other, length-set, length_push}
 use Rattle.std.proofs.lemmas.List.Elements.{All-nil, All-cons}
-use Rattle.std.proofs.lemmas.Bool.{cases_lt, cases_eq, cond_both, cond-true, lt-ltb}
-use Rattle.causal_deps.specs.declared.record.Record.{Record}
-use Rattle.causal_deps.specs.declared.record.Item.{Item}
+use Rattle.std.proofs.lemmas.Bool.{cases_lt, cases_eq, cond_both, lt-ltb}
 use Rattle.causal_deps.specs.declared.record.Item.TheVariants.{External}
-use Rattle.causal_deps.specs.Counts.{entry_of, greater_rows}
+use Rattle.causal_deps.specs.Counts.{entry_of}
 use Rattle.causal_deps.specs.Logs.{count_of}
 use Rattle.causal_deps.proofs.CountsLemmas.{entry_of-greater_rows}
 use Rattle.causal_deps.proofs.Lists.{slice_get_at_end}
 use Rattle.abstract_log.specs.declared.command.Workload.{Workload}
 use Rattle.abstract_log.specs.declared.event.Event.{Event}
 use Rattle.abstract_log.specs.declared.event.Event.TheVariants.{Receive}
-use Rattle.abstract_log.specs.declared.script.Outcome.TheVariants.{Absent, Sent}
+use Rattle.abstract_log.specs.declared.script.Outcome.TheVariants.{Absent}
 use Rattle.abstract_log.specs.declared.script.Step.{Step}
 use Rattle.abstract_log.specs.declared.script.Step.TheVariants.{Send, Deliver}
 use Rattle.abstract_log.specs.declared.world.World.{World}
-use Rattle.abstract_log.specs.Runs.{after_all}
 use Rattle.abstract_log.specs.Steps.{after, names_with}
 use Rattle.abstract_log.specs.Worlds.{log_of, pending_of}
 use Rattle.lossy_links.specs.Links.{message_at, put_last, without}
 use Rattle.record_codec.specs.declared.message.Message.{Message}
 use Rattle.stage_world.specs.Stages.{Datacentre, Stages, batcher_at}
-use Rattle.stage_world.specs.StandsFor.{StandsAt}
 use Rattle.stage_world.specs.MoreTurns.{message_of, names_of, received, receive_turn}
-use Rattle.stage_world.specs.LinkTurns.{Moved, still, moved_at, with_link, put_in_link, send_turn, link_length, has_lost}
+use Rattle.stage_world.specs.LinkTurns.{Moved, still, moved_at, with_link, put_in_link, send_turn, link_length}
 use Rattle.stage_world.specs.Whole.{datacentre_at, link_at, nowhere_at, with_turn}
-use Rattle.stage_world.specs.Schedules.{IsStep, AreTwo, step_of, after_steps}
-use Rattle.stage_world.specs.Settling.{Errand, sent_and_delivered}
+use Rattle.stage_world.specs.Schedules.{IsStep, step_of, after_steps}
+use Rattle.stage_world.specs.Settling.{sent_and_delivered}
 use Rattle.stage_world.proofs.ReceiveTurn.{names_come}
 use Rattle.settling_laws.specs.Rounds.{IsStanding}
 use Rattle.settling_laws.proofs.Live.{stands_at}
-use Rattle.settling_laws.proofs.Behind.{IsDueAt, IsBehind, LeadsTo, LeadsBy, step_leads, step_leads_by, behind_both}
+use Rattle.settling_laws.proofs.Behind.{IsDueAt, LeadsTo, LeadsBy, step_leads, step_leads_by, behind_both}
 use Rattle.settling_laws.proofs.LocalRound.{live_at}
 
 -- Between z and y only batchers and the table changed; there are as many batchers, and the table grew.

@@ -1,9 +1,9 @@
 -- An exchange: every datacentre tells every other its table, and the next of its own records that the other lacks.
-use Rattle.std.proofs.Common.{◌≡◌, ◌≢◌, ◌⊎◌, ℕ, zero, suc, ◌+◌, ◌-◌, ◌<◌, ◌≤◌, true, false, Bool, cond, eqb, ltb, ◌&&◌, ◌||◌, List, [], ◌∷◌, ◌++◌, length, map, take, get_or, refl, ap, sym, subst, ◌∙◌, inl, inr, arith, Some, slice_get}
-use Rattle.std.specs.List.{All, Contains, flat_map}
-use Rattle.std.proofs.lemmas.List.Elements.{All-nil, All-cons, All-head, All-tail, All-append, All-contains, All-weaker}
+use Rattle.std.proofs.Common.{◌≡◌, ◌≢◌, ◌⊎◌, ℕ, ◌+◌, ◌-◌, ◌<◌, ◌≤◌, true, false, eqb, ltb, List, [], ◌∷◌, ◌++◌, length, take, refl, ap, sym, subst, ◌∙◌, inl, inr, arith, Some, slice_get}
+use Rattle.std.specs.List.{All, Contains}
+use Rattle.std.proofs.lemmas.List.Elements.{All-nil, All-head, All-tail, All-append, All-contains, All-weaker}
 use Rattle.std.proofs.lemmas.Option.{same_Some}
-use Rattle.std.proofs.lemmas.Bool.{cases_lt, cases_eq, cases_Bool, cond_both, cond-true, cond-false, and_parts, and_from, eqb-true, eq-eqb, ltb-true, lt-ltb, or_parts, eqb-false}
+use Rattle.std.proofs.lemmas.Bool.{cases_lt, cond_both, and_parts, and_from, eqb-true, eq-eqb, ltb-true, lt-ltb, or_parts}
 use Rattle.causal_deps.specs.declared.record.Record.{Record}
 use Rattle.causal_deps.specs.Counts.{entry_of}
 use Rattle.causal_deps.specs.Logs.{count_of, IsCausal}
@@ -11,7 +11,7 @@ use Rattle.causal_deps.proofs.LogsLemmas.{count_of-take, count_of-take_more}
 use Rattle.abstract_log.specs.declared.command.Workload.{Workload}
 use Rattle.abstract_log.specs.declared.script.Step.{Step}
 use Rattle.abstract_log.specs.declared.world.World.{World}
-use Rattle.abstract_log.specs.Worlds.{log_of, table_of}
+use Rattle.abstract_log.specs.Worlds.{log_of}
 use Rattle.maintainer.specs.Maintainers.{IsEntryOf}
 use Rattle.record_codec.specs.declared.message.Message.{Message}
 use Rattle.sender_receiver.specs.Choosing.{is_new}
@@ -25,7 +25,7 @@ use Rattle.stage_world.specs.Settling.{Errand, is_due, sent_and_delivered, erran
 use Rattle.stage_world.proofs.ListLemmas.{Contains-cases, Contains-head, Contains-tail}
 use Rattle.settling_laws.specs.Rounds.{IsStanding}
 use Rattle.settling_laws.proofs.Rounds.{after_steps-append}
-use Rattle.settling_laws.proofs.Behind.{IsDueAt, IsBehind, behind_itself, behind_both, LeadsTo, stands_here}
+use Rattle.settling_laws.proofs.Behind.{IsDueAt, behind_itself, behind_both, LeadsTo, stands_here}
 use Rattle.settling_laws.proofs.Errands.{IsBeside, beside_itself, beside_both, IsErrandDone, errand_runs}
 use Rattle.settling_laws.proofs.Stocks.{first_told, stock_all, stock_rises}
 
@@ -116,7 +116,9 @@ module _ (load : Workload) (z : Stages) (h : IsStanding load z) (x : Errand) (go
           | inl before ↦ absurd (omega (
             arith,
             numbers_rise (log_of w x.from) (u.lid - 1) (y.lid - 1) u.rec y.rec (h.lawful.causal x.from) at_u.stands at_y.stands same_host (omega (arith, before, at_u.first)),
-            ltb-true known u.rec.toid parts.1, ap (λ (r : Record). r.toid) next.rec, next.known,
+            ltb-true known u.rec.toid parts.1,
+            ap (λ (r : Record). r.toid) next.rec,
+            next.known,
           ))
         ] in
         inr (subst (Contains m.records) next.rec (first_told x.from known stock y (stock_rises v.maintainers x.sender v.senders) next.stocked new only))

@@ -12,7 +12,8 @@ use Rattle.flstore_rounds.proofs.EpochLemmas.{prefix_refl}
 use Rattle.flstore_rounds.proofs.HeadLemmas.{mark_at-joined, own_raises}
 use Rattle.head_gossip.specs.Marks.{AreMarks}
 use Rattle.maintainer.specs.Maintainers.{MaintainerState, mark_of}
-use Rattle.stage_world.specs.Stages.{Datacentre, Indexer, maintainer_at, no_maintainer, vector_at, no_epochs, IsFilledIn}
+use Rattle.tag_indexer.specs.Indexers.{IndexerState}
+use Rattle.stage_world.specs.Stages.{Datacentre, maintainer_at, no_maintainer, vector_at, no_epochs, IsFilledIn}
 use Rattle.stage_world.specs.StandsFor.{StandsAt}
 use Rattle.stage_world.specs.Turns.{gossip_turn, gossiped}
 use Rattle.stage_world.specs.Opening.{numbered}
@@ -31,10 +32,10 @@ pub record IsPlacedRound (load : Workload) (d : ℕ) (z y : Datacentre) : Type 0
   pub placed : IsAllPlaced y
 
 -- these do not speak of vectors, indexers and the table
-pub drained_beside : (y : Datacentre) (vs : List Pair) (is : List Indexer) (table : List (List ℕ)) (learnt : ℕ) → IsDrained y → IsDrained (record y { vectors = vs; indexers = is; table = table; learnt = learnt })
+pub drained_beside : (y : Datacentre) (vs : List Pair) (is : List IndexerState) (table : List (List ℕ)) (learnt : ℕ) → IsDrained y → IsDrained (record y { vectors = vs; indexers = is; table = table; learnt = learnt })
 drained_beside y vs is table learnt h = record { batchers = h.batchers; filters = h.filters; queues = h.queues; deferred = h.deferred }
 
-pub placed_beside : (y : Datacentre) (vs : List Pair) (is : List Indexer) (table : List (List ℕ)) (learnt : ℕ) → IsAllPlaced y → IsAllPlaced (record y { vectors = vs; indexers = is; table = table; learnt = learnt })
+pub placed_beside : (y : Datacentre) (vs : List Pair) (is : List IndexerState) (table : List (List ℕ)) (learnt : ℕ) → IsAllPlaced y → IsAllPlaced (record y { vectors = vs; indexers = is; table = table; learnt = learnt })
 placed_beside y vs is table learnt h = record { queues = h.queues; outboxes = h.outboxes; maintainers = h.maintainers; filled = h.filled }
 
 -- a pair that knows a mark knows it yet when it takes another

@@ -156,6 +156,6 @@ turn_goes load d z (Place _ q m) at l = there_goes (ltb q (length z.queues) && l
     (length-set z.maintainers m (moved_in (learned (maintainer_at z.maintainers m) (queue_at z.queues q).epochs) (map slot_of (outbox_for (queue_at z.queues q) m))))) refl refl refl refl)
 turn_goes load d z (Gossip _ m k) at l = there_goes (ltb m (length z.maintainers) && ltb k (length z.maintainers)) z (gossip_turn z m k) (with_sizes z (gossiped z m k) refl refl refl refl refl refl)
 turn_goes load d z (Post _ m i) at l = there_goes (ltb m (length z.maintainers) && ltb i (length z.indexers)) z (post_turn z m i)
-    (with_sizes z (posted z m i) refl (ap (λ n. record (sizes_of z) { indexers = n }) (length-set z.indexers i (posted_to (length z.indexers) (indexer_at z.indexers i) (maintainer_at z.maintainers m) m))) refl refl refl refl)
+    (with_sizes z (posted z m i) refl (ap (λ n. record (sizes_of z) { indexers = n }) (length-set z.indexers i (posted_to (indexer_at z.indexers i) (maintainer_at z.maintainers m) m))) refl refl refl refl)
 turn_goes load d z (Learn _) at l = with_sizes z (learn_turn d z).after refl refl refl refl refl refl
 turn_goes load d z step at l = absurd at

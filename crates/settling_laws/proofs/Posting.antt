@@ -1,6 +1,6 @@
 -- Every maintainer with every indexer, and the table: all cover the whole log.
-use Rattle.std.proofs.Common.{◌≡◌, ℕ, zero, suc, ◌<◌, ◌≤◌, true, false, Bool, cond, leb, ltb, ◌&&◌, [], ◌∷◌, length, take, set, refl, ap, sym, subst, ◌∙◌, arith}
-use Rattle.std.specs.List.{All, Contains, filter, filter_map, fold, list_any}
+use Rattle.std.proofs.Common.{◌≡◌, ℕ, zero, suc, ◌<◌, ◌≤◌, true, false, Bool, cond, leb, ltb, ◌&&◌, [], ◌∷◌, length, map, take, set, refl, ap, sym, subst, ◌∙◌, arith}
+use Rattle.std.specs.List.{All, Contains, filter, list_any}
 use Rattle.std.proofs.lemmas.List.{get_or-set_same, take_all}
 use Rattle.std.proofs.lemmas.List.Elements.{All-get_or, All-from_get_or, All-contains}
 use Rattle.std.proofs.lemmas.List.Sums.{get_or-le-sum_by}
@@ -19,9 +19,10 @@ use Rattle.maintainer.specs.declared.slot.Slot.{Slot}
 use Rattle.maintainer.specs.Maintainers.{MaintainerState, mark_of, times, times_filled, OwnsAll, Owns}
 use Rattle.maintainer.proofs.CountLemmas.{position_counts}
 use Rattle.toid_filter.proofs.Tests.{any_gives}
-use Rattle.stage_world.specs.Stages.{Datacentre, Indexer, maintainer_at, no_maintainer, indexer_at, no_indexer, vector_at, filled, IsFilledIn}
-use Rattle.stage_world.specs.StandsFor.{StandsAt, IsIndexed, gone_times}
-use Rattle.stage_world.specs.MoreTurns.{post_turn, posted, posted_to, row_in, row_from}
+use Rattle.tag_indexer.specs.Indexers.{IndexerState, posted as rows_posted}
+use Rattle.stage_world.specs.Stages.{Datacentre, maintainer_at, no_maintainer, indexer_at, no_indexer, vector_at, filled, IsFilledIn}
+use Rattle.stage_world.specs.StandsFor.{StandsAt, IsIndexedAt, gone_times}
+use Rattle.stage_world.specs.MoreTurns.{post_turn, posted, posted_to, row_made}
 use Rattle.stage_world.specs.Opening.{numbered}
 use Rattle.stage_world.specs.Settling.{posts}
 use Rattle.stage_world.proofs.StandsLemmas.{some_vector}
@@ -56,11 +57,11 @@ module _ (load : Workload) (d : ℕ) (z : Datacentre) where
     abbrev x : MaintainerState Record
     x = maintainer_at y.maintainers m
 
-    abbrev old : Indexer
+    abbrev old : IndexerState
     old = indexer_at y.indexers i
 
-    abbrev new : Indexer
-    new = posted_to (length y.indexers) old x m
+    abbrev new : IndexerState
+    new = posted_to old x m
 
     is : turned d y (Post d m i) ≡ posted y m i
     is = post_is y m i h.round.round in_m in_i
@@ -77,8 +78,8 @@ module _ (load : Workload) (d : ℕ) (z : Datacentre) where
     whole : x.epochs ≡ t
     whole = All-get_or (λ (n : MaintainerState Record). n.epochs ≡ t) y.maintainers m no_maintainer inside_m h.round.placed.maintainers
 
-    indexed : IsTruePair t (IsFilledIn y.maintainers) old.pair × IsIndexed (log_of w d) (length y.indexers) old
-    indexed = All-get_or (λ (n : Indexer). IsTruePair t (IsFilledIn y.maintainers) n.pair × IsIndexed (log_of w d) (length y.indexers) n) y.indexers i no_indexer inside_i stands.indexers
+    indexed : IsTruePair t (IsFilledIn y.maintainers) old.pair × IsIndexedAt (log_of w d) (length y.indexers) old
+    indexed = All-get_or (λ (n : IndexerState). IsTruePair t (IsFilledIn y.maintainers) n.pair × IsIndexedAt (log_of w d) (length y.indexers) n) y.indexers i no_indexer inside_i stands.indexers
 
     -- a gone position of m is below the indexer's mark of m
     gone_below : (p : ℕ) → Contains x.gone p → p < mark_at old.pair m
@@ -86,7 +87,7 @@ module _ (load : Workload) (d : ℕ) (z : Datacentre) where
         let counted : 1 ≤ times p x.gone = position_counts p x.gone has in
         let all : 1 ≤ gone_times p y.maintainers = omega (arith, get_or-le-sum_by (λ (n : MaintainerState Record). times p n.gone) y.maintainers m no_maintainer inside_m) in
         let low = stands.aware.below p (omega (arith, all, stands.placed.collected p)) in
-        let covered : y.floor ≤ head old.pair = All-get_or (λ (n : Indexer). y.floor ≤ head n.pair) y.indexers i no_indexer inside_i stands.below.covered in
+        let covered : y.floor ≤ head old.pair = All-get_or (λ (n : IndexerState). y.floor ≤ head n.pair) y.indexers i no_indexer inside_i stands.below.covered in
         let some : 1 ≤ filled p y.maintainers = omega (arith, counted, get_or-le-sum_by (times_filled p) y.maintainers m no_maintainer inside_m) in
         let first : 1 ≤ p = first_of p some in
         let j : ℕ = owner old.pair.epochs p in
@@ -115,10 +116,7 @@ module _ (load : Workload) (d : ℕ) (z : Datacentre) where
             absurd (omega (arith, leb-true (mark_at old.pair m) found.0 parts.0, gone_below found.0 found.1))
 
     new_pair : new.pair ≡ with_own old.pair x.epochs m (mark_of x)
-    new_pair = ap (λ b. (cond b (record old { pair = record old.pair { epochs = longer old.pair.epochs x.epochs } }) (record old {
-      pair = with_own old.pair x.epochs m (mark_of x);
-      rows = fold (λ rows post. row_in post rows) old.rows (filter_map (row_from (length y.indexers) old.number) (filter (λ (e : Slot Record). leb (mark_at old.pair m) e.lid && ltb e.lid (mark_of x)) x.entries));
-    })).pair) none_between
+    new_pair = ap (λ b. (cond b (record old { pair = record old.pair { epochs = longer old.pair.epochs x.epochs } }) (rows_posted old x.epochs m (mark_of x) (map row_made (filter (λ (e : Slot Record). leb (mark_at old.pair m) e.lid && ltb e.lid (mark_of x)) x.entries)))).pair) none_between
 
     post_stays : IsGossipedRound load d z (turned d y (Post d m i))
     post_stays = record {
@@ -131,17 +129,17 @@ module _ (load : Workload) (d : ℕ) (z : Datacentre) where
     }
 
     post_keeps : (pair : ℕ × ℕ) → Covers pair y → Covers pair (turned d y (Post d m i))
-    post_keeps pair e = subst (Covers pair) (sym is) (at_changed (λ (n : Indexer). Knows t y.maintainers pair.0 n.pair) y.indexers i pair.1 new no_indexer
+    post_keeps pair e = subst (Covers pair) (sym is) (at_changed (λ (n : IndexerState). Knows t y.maintainers pair.0 n.pair) y.indexers i pair.1 new no_indexer
         (λ was. subst (Knows t y.maintainers pair.0) (sym new_pair) (knows_own t y.maintainers pair.0 old.pair x.epochs m (mark_of x) whole was)) e)
 
     knows_m : Knows t y.maintainers m new.pair
-    knows_m = subst (Knows t y.maintainers m) (sym new_pair) (knows_taken t y.maintainers m old.pair x.epochs whole indexed.0.known (omega (arith, indexed.1.size, in_m, maintainers_stay load d z y h.round.round, stands.members.ranges.maintainers.1)))
+    knows_m = subst (Knows t y.maintainers m) (sym new_pair) (knows_taken t y.maintainers m old.pair x.epochs whole indexed.0.known (omega (arith, indexed.1.has.size, in_m, maintainers_stay load d z y h.round.round, stands.members.ranges.maintainers.1)))
 
     post_makes : (pair : ℕ × ℕ) → pair.0 ≡ m → pair.1 ≡ i → Covers pair (turned d y (Post d m i))
     post_makes pair at_m at_i = subst (Covers pair) (sym is)
         (subst (λ j. Knows t y.maintainers pair.0 (indexer_at (set y.indexers i new) j).pair) (sym at_i)
         (subst (λ j. Knows t y.maintainers j (indexer_at (set y.indexers i new) i).pair) (sym at_m)
-        (subst (λ (n : Indexer). Knows t y.maintainers m n.pair) (sym (get_or-set_same y.indexers i new no_indexer inside_i)) knows_m)))
+        (subst (λ (n : IndexerState). Knows t y.maintainers m n.pair) (sym (get_or-set_same y.indexers i new no_indexer inside_i)) knows_m)))
 
   abbrev Of : ℕ → ℕ → ℕ × ℕ → Type 0
   Of m i pair = (pair.0 ≡ m) × (pair.1 ≡ i)
@@ -165,9 +163,9 @@ module _ (load : Workload) (d : ℕ) (z : Datacentre) where
       let u : World = after.round.round.live.standing.world in
       let stands_v : StandsAt u d v = stands_at load d v after.round.round.live in (
         after,
-        All-from_get_or (λ (n : Indexer). head n.pair ≡ v.token.last) v.indexers no_indexer
+        All-from_get_or (λ (n : IndexerState). head n.pair ≡ v.token.last) v.indexers no_indexer
             (λ i in_i. head_whole u d v stands_v after.round.placed (indexer_at v.indexers i).pair
-            (All-get_or (λ (n : Indexer). IsTruePair v.token.epochs (IsFilledIn v.maintainers) n.pair × IsIndexed (log_of u d) (length v.indexers) n) v.indexers i no_indexer in_i stands_v.indexers).0
+            (All-get_or (λ (n : IndexerState). IsTruePair v.token.epochs (IsFilledIn v.maintainers) n.pair × IsIndexedAt (log_of u d) (length v.indexers) n) v.indexers i no_indexer in_i stands_v.indexers).0
             (λ m in_m. post_all.makes y (m, i) h
             (m, omega (arith, in_m, maintainers_stay load d z v after.round.round), (i, omega (arith, in_i, indexers_stay load d z v after.round.round), (refl, refl))))),
       )

@@ -1,11 +1,10 @@
 -- Settling ends, and the world that it leaves is finished.
-use Rattle.std.proofs.Common.{◌≡◌, ◌≢◌, ◌⊎◌, ℕ, zero, suc, ◌+◌, ◌<◌, ◌≤◌, true, false, Bool, not, ◌||◌, ◌&&◌, eqb, ltb, List, [], ◌∷◌, ◌++◌, length, get_or, refl, ap, sym, subst, ◌∙◌, inl, inr, arith, None}
+use Rattle.std.proofs.Common.{◌≡◌, ℕ, zero, suc, ◌<◌, ◌≤◌, true, false, Bool, not, eqb, List, [], ◌∷◌, ◌++◌, length, get_or, refl, ap, sym, subst, ◌∙◌, inl, inr, arith, None}
 use Rattle.std.specs.List.{All, Contains, list_all}
-use Rattle.std.proofs.lemmas.Bool.{cases_lt, cases_Bool, or_parts, and_parts, eqb-true, ltb-false}
-use Rattle.std.proofs.lemmas.List.{get_or_past, get_or_default, get_or-map, length-map}
-use Rattle.std.proofs.lemmas.List.Elements.{All-nil, All-append, All-head, All-tail}
-use Rattle.causal_deps.specs.declared.record.Record.{Record}
-use Rattle.causal_deps.specs.Logs.{count_of, HasName}
+use Rattle.std.proofs.lemmas.Bool.{cases_lt, or_parts, and_parts, eqb-true, ltb-false}
+use Rattle.std.proofs.lemmas.List.{get_or_past, get_or-map, length-map}
+use Rattle.std.proofs.lemmas.List.Elements.{All-append, All-head, All-tail}
+use Rattle.causal_deps.specs.Logs.{count_of}
 use Rattle.abstract_log.specs.declared.command.Workload.{Workload}
 use Rattle.abstract_log.specs.declared.event.Event.{Event}
 use Rattle.abstract_log.specs.declared.script.Step.{Step}
@@ -18,19 +17,19 @@ use Rattle.log_laws.specs.Writes.{writes_at}
 use Rattle.log_laws.proofs.FinishedLogs.{logs_whole}
 use Rattle.log_laws.proofs.Runs.{CanAllHappen-append, after_all-append}
 use Rattle.stage_world.specs.Stages.{Datacentre, Session, Stages}
-use Rattle.stage_world.specs.StandsFor.{StandsAt, IsAt, IsAsFar, numbers_of}
+use Rattle.stage_world.specs.StandsFor.{StandsAt}
 use Rattle.stage_world.specs.MoreTurns.{same_counts}
 use Rattle.stage_world.specs.Whole.{StandsFor, datacentre_at, nowhere_at}
 use Rattle.stage_world.specs.Schedules.{IsStep, IsKept, step_of, after_steps, events_of}
 use Rattle.stage_world.specs.Settling.{is_unanswered, has_unanswered, is_answering, is_agreed, is_unfinished, all_rounds, answering_rounds, telling_rounds, after_passes, turns_of_passes, IsLoop, IsSettling}
 use Rattle.stage_world.proofs.AllTurns.{step_kept}
-use Rattle.settling_laws.specs.Rounds.{IsStanding, EndsAnswering, left_in}
+use Rattle.settling_laws.specs.Rounds.{IsStanding, EndsAnswering}
 use Rattle.settling_laws.specs.Ending.{AreQuiet, EndsTelling, EndsSettling, IsFinishedBy}
 use Rattle.settling_laws.proofs.LawfulAfter.{lawful_after, workload_stays, kept_of}
 use Rattle.settling_laws.proofs.Live.{steps_stand}
 use Rattle.settling_laws.proofs.Rounds.{after_steps-append}
 use Rattle.settling_laws.proofs.Loop.{answering_ends_at, answering_steps}
-use Rattle.settling_laws.proofs.Behind.{LeadsTo, extends_counts, stands_here}
+use Rattle.settling_laws.proofs.Behind.{extends_counts, stands_here}
 use Rattle.settling_laws.proofs.TellingPass.{AreAllRounded, all_round, dcs_of}
 use Rattle.settling_laws.proofs.TellingLoop.{no_left, no_answers, none_any, telling_steps, telling_ends_at}
 

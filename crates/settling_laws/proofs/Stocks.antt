@@ -1,13 +1,12 @@
 -- What a sender reads: the records of its maintainers by rising position, and the first that it has to tell.
-use Rattle.std.proofs.Common.{◌≡◌, ◌≢◌, ◌⊎◌, ℕ, zero, suc, ◌+◌, ◌-◌, ◌%◌, mod-lt, ◌<◌, ◌≤◌, true, false, Bool, cond, ltb, eqb, ◌&&◌, List, [], ◌∷◌, ◌++◌, length, map, take, filter, get_or, refl, ap, sym, subst, ◌∙◌, inl, inr, arith, Some, slice_get}
-use Rattle.std.specs.List.{All, Contains, flat_map, fold, sum_by}
-use Rattle.std.proofs.lemmas.List.Elements.{All-nil, All-cons, All-head, All-tail, All-append, All-get_or, All-contains}
+use Rattle.std.proofs.Common.{◌≡◌, ◌⊎◌, ℕ, ◌%◌, ◌<◌, ◌≤◌, true, false, Bool, cond, ltb, eqb, List, [], ◌∷◌, ◌++◌, take, filter, refl, ap, sym, subst, ◌∙◌, inl, inr, arith}
+use Rattle.std.specs.List.{All, Contains, flat_map, fold}
+use Rattle.std.proofs.lemmas.List.Elements.{All-nil, All-cons, All-head, All-tail, All-append, All-contains}
 use Rattle.std.proofs.lemmas.List.Sums.{sum_by-cons}
-use Rattle.std.proofs.lemmas.Option.{get_or_from_slice_get, same_Some}
-use Rattle.std.proofs.lemmas.Bool.{cases_lt, cases_eq, cases_Bool, cond_both, cond-true, cond-false, ltb-true, ltb-false, and_parts, and_from, eq-eqb, lt-ltb, eqb-true, eqb-false}
+use Rattle.std.proofs.lemmas.Bool.{cases_lt, cases_eq, cond_both, cond-true, cond-false, ltb-true, ltb-false, eq-eqb, eqb-true}
 use Rattle.causal_deps.specs.declared.record.Record.{Record}
 use Rattle.maintainer.specs.declared.slot.Slot.{Slot}
-use Rattle.maintainer.specs.Maintainers.{MaintainerState, IsEntryOf, times_in, times, times_filled}
+use Rattle.maintainer.specs.Maintainers.{MaintainerState, times_in, times, times_filled}
 use Rattle.sender_receiver.specs.Choosing.{is_new, first_new}
 use Rattle.sender_receiver.specs.Stocks.{Stocked, records_in}
 use Rattle.stage_world.specs.Stages.{filled}

@@ -1,28 +1,22 @@
 -- The rounds of telling end: of three passes the logs grow, unless they agree.
-use Rattle.std.proofs.Common.{◌≡◌, ◌≢◌, ◌⊎◌, ℕ, zero, suc, ◌+◌, ◌*◌, ◌<◌, ◌≤◌, true, false, Bool, not, ◌||◌, List, [], ◌∷◌, ◌++◌, length, get_or, refl, ap, sym, subst, ◌∙◌, inl, inr, arith, Some, None}
-use Rattle.std.specs.List.{All, Contains, list_all, sum_by}
-use Rattle.std.proofs.lemmas.Bool.{cases_lt, cases_eq, cases_Bool}
+use Rattle.std.proofs.Common.{◌≡◌, ◌≢◌, ℕ, ◌<◌, ◌≤◌, false, List, length, get_or, refl, ap, sym, subst, ◌∙◌, inl, inr, arith}
+use Rattle.std.specs.List.{list_all, sum_by}
+use Rattle.std.proofs.lemmas.Bool.{cases_lt}
 use Rattle.std.proofs.lemmas.List.{get_or_default, length-append}
-use Rattle.std.proofs.lemmas.List.Elements.{All-nil, All-append, All-from_get_or}
-use Rattle.std.proofs.lemmas.List.Sums.{sum_by-le}
 use Rattle.causal_deps.specs.declared.record.Record.{Record}
 use Rattle.causal_deps.specs.Counts.{entry_of}
-use Rattle.causal_deps.specs.Logs.{count_of, nth_of}
+use Rattle.causal_deps.specs.Logs.{count_of}
 use Rattle.abstract_log.specs.declared.command.Workload.{Workload}
 use Rattle.abstract_log.specs.declared.script.Step.{Step}
-use Rattle.abstract_log.specs.declared.world.World.{World}
-use Rattle.abstract_log.specs.Worlds.{log_of, table_of}
+use Rattle.abstract_log.specs.Worlds.{log_of}
 use Rattle.stage_world.specs.Stages.{Datacentre, Stages}
-use Rattle.stage_world.specs.StandsFor.{StandsAt}
 use Rattle.stage_world.specs.MoreTurns.{same_counts}
 use Rattle.stage_world.specs.Whole.{datacentre_at, nowhere_at}
-use Rattle.stage_world.specs.Schedules.{IsStep, after_steps}
-use Rattle.stage_world.specs.Settling.{Errand, errands, is_agreed}
-use Rattle.settling_laws.specs.Rounds.{IsStanding, IsRounded}
+use Rattle.stage_world.specs.Settling.{Errand, is_agreed}
+use Rattle.settling_laws.specs.Rounds.{IsStanding}
 use Rattle.settling_laws.specs.Ending.{AreQuiet}
 use Rattle.settling_laws.proofs.Answering.{sum_less, sum_fewer}
-use Rattle.settling_laws.proofs.Behind.{IsDueAt, IsBehind, behind_both, extends_counts, extends_longer, extends_same, nth_extends, stands_here}
-use Rattle.settling_laws.proofs.Exchange.{IsNext}
+use Rattle.settling_laws.proofs.Behind.{IsDueAt, IsBehind, behind_both, extends_counts, extends_longer, nth_extends, stands_here}
 use Rattle.settling_laws.proofs.Arrivals.{arrived}
 use Rattle.settling_laws.proofs.Choosing.{IsMissing, missing, fails_at, differ_at}
 use Rattle.settling_laws.proofs.TellingPass.{IsTelling, errand_there, sender_of, dcs_of}

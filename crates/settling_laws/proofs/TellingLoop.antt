@@ -1,6 +1,6 @@
 -- The rounds of telling end.
-use Rattle.std.proofs.Common.{◌≡◌, ◌≢◌, ◌⊎◌, ℕ, zero, suc, ◌+◌, ◌*◌, ◌<◌, ◌≤◌, true, false, Bool, not, ◌||◌, ltb, List, [], ◌∷◌, ◌++◌, length, get_or, refl, ap, sym, subst, ◌∙◌, inl, inr, arith}
-use Rattle.std.specs.List.{All, Contains, list_any, sum_by}
+use Rattle.std.proofs.Common.{◌≡◌, ℕ, zero, suc, ◌+◌, ◌*◌, ◌<◌, ◌≤◌, true, false, Bool, not, List, [], ◌∷◌, length, get_or, refl, ap, sym, subst, ◌∙◌, inl, inr, arith}
+use Rattle.std.specs.List.{All, list_any}
 use Rattle.std.proofs.lemmas.Bool.{cases_lt, cases_Bool, or_parts, or_from, ltb-true, ltb-false}
 use Rattle.std.proofs.lemmas.List.{get_or_default}
 use Rattle.std.proofs.lemmas.List.Elements.{All-nil, All-append, All-from_get_or}
@@ -12,14 +12,13 @@ use Rattle.toid_filter.proofs.Tests.{any_gives}
 use Rattle.stage_world.specs.Stages.{Datacentre, Session, Stages}
 use Rattle.stage_world.specs.StandsFor.{StandsAt}
 use Rattle.stage_world.specs.Whole.{datacentre_at, nowhere_at}
-use Rattle.stage_world.specs.Schedules.{IsStep, after_steps}
-use Rattle.stage_world.specs.Settling.{is_unanswered, has_unanswered, is_answering, is_agreed, is_unfinished, telling_rounds, after_passes, turns_of_passes, IsLoop}
+use Rattle.stage_world.specs.Schedules.{IsStep}
+use Rattle.stage_world.specs.Settling.{is_unanswered, has_unanswered, is_answering, is_agreed, is_unfinished, telling_rounds, after_passes, turns_of_passes}
 use Rattle.settling_laws.specs.Rounds.{IsStanding, left_to, left_at, left_in}
 use Rattle.settling_laws.specs.Ending.{AreQuiet, EndsTelling, most_passes}
 use Rattle.settling_laws.proofs.Answering.{sum_less, left_some, left_none}
 use Rattle.settling_laws.proofs.ClientTurns.{no_session, session_at}
 use Rattle.settling_laws.proofs.Drafts.{sum_none}
-use Rattle.settling_laws.proofs.Rounds.{after_steps-append}
 use Rattle.settling_laws.proofs.Behind.{stands_here}
 use Rattle.settling_laws.proofs.TellingPass.{IsTelling, telling, dcs_of}
 use Rattle.settling_laws.proofs.Telling.{total, two_passes}

@@ -1,35 +1,33 @@
 -- One pass of telling: a local round of each datacentre, then an exchange.
-use Rattle.std.proofs.Common.{◌≡◌, ◌≢◌, ◌⊎◌, ℕ, zero, suc, ◌+◌, ◌-◌, ◌%◌, mod-lt, ◌<◌, ◌≤◌, true, false, Bool, cond, eqb, ltb, List, [], ◌∷◌, ◌++◌, length, map, get_or, refl, ap, sym, subst, ◌∙◌, inl, inr, arith, Some, None, slice_get, append-nil}
-use Rattle.std.specs.List.{All, Contains, filter, flat_map, sum_by}
-use Rattle.std.proofs.lemmas.List.Elements.{All-nil, All-cons, All-append, All-get_or, All-push, All-contains}
+use Rattle.std.proofs.Common.{◌≡◌, ◌≢◌, ℕ, zero, suc, ◌+◌, ◌-◌, ◌%◌, mod-lt, ◌<◌, ◌≤◌, true, cond, eqb, List, [], ◌∷◌, ◌++◌, length, refl, ap, sym, subst, ◌∙◌, inl, inr, arith, Some, slice_get, append-nil}
+use Rattle.std.specs.List.{All, Contains, filter, flat_map}
+use Rattle.std.proofs.lemmas.List.Elements.{All-nil, All-append, All-push, All-contains}
 use Rattle.std.proofs.lemmas.Grind.{flat_map-append}
-use Rattle.std.proofs.lemmas.Bool.{cases_lt, cases_eq, cond_both, cond-false, ne_eqb, eqb-false}
-use Rattle.std.proofs.lemmas.Option.{get_or_from_slice_get, slice_get_within, same_Some}
+use Rattle.std.proofs.lemmas.Bool.{cases_lt, cond_both, cond-false, ne_eqb, eqb-false}
+use Rattle.std.proofs.lemmas.Option.{slice_get_within, same_Some}
 use Rattle.causal_deps.specs.declared.record.Record.{Record}
 use Rattle.causal_deps.specs.Counts.{entry_of}
-use Rattle.causal_deps.specs.Logs.{count_of, nth_of}
+use Rattle.causal_deps.specs.Logs.{count_of}
 use Rattle.causal_deps.proofs.LogsLemmas.{nth_of_place}
 use Rattle.abstract_log.specs.declared.command.Workload.{Workload}
 use Rattle.abstract_log.specs.declared.script.Step.{Step}
 use Rattle.abstract_log.specs.declared.world.World.{World}
-use Rattle.abstract_log.specs.Worlds.{log_of, table_of, gone_of}
+use Rattle.abstract_log.specs.Worlds.{log_of}
 use Rattle.maintainer.specs.declared.slot.Slot.{Slot}
-use Rattle.maintainer.specs.Maintainers.{MaintainerState, IsEntryOf, times}
-use Rattle.stage_world.specs.Stages.{Datacentre, Stages, sizes_of}
+use Rattle.maintainer.specs.Maintainers.{MaintainerState, IsEntryOf}
+use Rattle.stage_world.specs.Stages.{Datacentre, Stages}
 use Rattle.stage_world.specs.StandsFor.{StandsAt, IsSafe, gone_times}
 use Rattle.stage_world.specs.MoreTurns.{stocked}
 use Rattle.stage_world.specs.Opening.{numbered}
 use Rattle.stage_world.specs.Whole.{datacentre_at, nowhere_at}
 use Rattle.stage_world.specs.Schedules.{IsStep, after_steps}
-use Rattle.stage_world.specs.Settling.{Errand, below, rounds, all_rounds, errands, exchange, exchange_turns, telling_rounds}
+use Rattle.stage_world.specs.Settling.{Errand, below, rounds, all_rounds, errands, exchange_turns, telling_rounds}
 use Rattle.stage_world.proofs.ListLemmas.{Contains-cases, Contains-head, Contains-tail}
 use Rattle.settling_laws.specs.Rounds.{HasSameMembers, IsRounded, IsStanding, left_at, left_in}
 use Rattle.settling_laws.proofs.LocalRound.{IsRoundOf, live_at, round_rounds}
-use Rattle.settling_laws.proofs.Members.{members_both}
 use Rattle.settling_laws.proofs.Answering.{sum_less, round_no_more}
 use Rattle.settling_laws.proofs.Rounds.{AreRoundsOf, rounds_are, rounded_at, after_steps-append}
-use Rattle.settling_laws.proofs.Behind.{IsDueAt, IsBehind, behind_both, LeadsTo, steps_lead, stands_here}
-use Rattle.settling_laws.proofs.Errands.{IsBeside}
+use Rattle.settling_laws.proofs.Behind.{LeadsTo, steps_lead, stands_here}
 use Rattle.settling_laws.proofs.Stocks.{some_entry, stock_has}
 use Rattle.settling_laws.proofs.Exchange.{IsErrand, IsNext, IsExchanged, exchanged}
 use Rattle.settling_laws.proofs.Choosing.{IsMissing}
@@ -181,11 +179,15 @@ sender_of load z h e m in_e rounded knows =
     let k : ℕ = ms.number % v.senders in
     let in_k : k < v.senders = mod-lt ms.number (omega (arith, stands.members.ranges.senders.0)) in
     let is_entry : IsEntryOf (log_of w d) slot = All-contains (IsEntryOf (log_of w d)) ms.entries slot (All-contains (λ (x : MaintainerState Record). All (IsEntryOf (log_of w d)) x.entries) v.maintainers ms stands.placed.entries entry.1) entry.2.1 in
-    let its : slot.value ≡ r = same_Some slot.value r (sym is_entry.stands ∙ ap (λ q. slice_get (log_of w d) (q - 1)) entry.2.2 ∙ at_p) in
-    (record { from = d; to = e; sender = k }, errand_there load z h d e k in_d in_e m.apart in_k, refl, record {
-      host = refl;
-      known = omega (arith, m.next, knows);
-      entry = stocked slot;
-      stocked = stock_has v.maintainers v.senders ms slot entry.1 entry.2.1;
-      rec = its;
-    })
+    let its : slot.value ≡ r = same_Some slot.value r (sym is_entry.stands ∙ ap (λ q. slice_get (log_of w d) (q - 1)) entry.2.2 ∙ at_p) in (
+      record { from = d; to = e; sender = k },
+      errand_there load z h d e k in_d in_e m.apart in_k,
+      refl,
+      record {
+        host = refl;
+        known = omega (arith, m.next, knows);
+        entry = stocked slot;
+        stocked = stock_has v.maintainers v.senders ms slot entry.1 entry.2.1;
+        rec = its;
+      },
+    )

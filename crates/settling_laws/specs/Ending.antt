@@ -1,12 +1,12 @@
 -- How settling ends.
-use Rattle.std.specs.Prelude.{◌≡◌, ℕ, ◌+◌, ◌*◌, ◌<◌, ◌≤◌, List, length, All, None}
+use Rattle.std.specs.Prelude.{◌≡◌, ℕ, ◌+◌, ◌*◌, ◌<◌, ◌≤◌, List, All, None}
 use Rattle.abstract_log.specs.declared.command.Workload.{Workload}
 use Rattle.abstract_log.specs.declared.script.Step.{Step}
 use Rattle.abstract_log.specs.declared.world.World.{World}
 use Rattle.abstract_log.specs.Runs.{CanAllHappen, IsFinished, after_all}
 use Rattle.stage_world.specs.Stages.{Stages}
 use Rattle.stage_world.specs.Whole.{datacentre_at}
-use Rattle.stage_world.specs.Schedules.{IsStep, after_steps, events_of}
+use Rattle.stage_world.specs.Schedules.{IsStep, events_of}
 use Rattle.stage_world.specs.Settling.{is_unfinished, telling_rounds, IsLoop, IsSettling}
 
 -- no announcement is on

@@ -9,5 +9,6 @@
 mod laws;
 
 pub use laws::{
-    answering_ends, rounds_settle_a_datacentre, settled_worlds_are_finished, settling_ends, telling_ends,
+    answering_ends, rounds_settle_a_datacentre, settled_worlds_are_finished, settling_ends,
+    telling_ends,
 };
