@@ -11,7 +11,7 @@ use Rattle.abstract_log.specs.declared.event.Event.{Event}
 use Rattle.abstract_log.specs.declared.world.World.{World}
 use Rattle.abstract_log.specs.Worlds.{start}
 use Rattle.abstract_log.specs.Runs.{IsFinished, after_all, world_of}
-use Rattle.abstract_log.proofs.Runs.{after_all-append}
+use Rattle.log_laws.proofs.Runs.{after_all-append}
 use Rattle.log_laws.specs.Lawful.{IsLawful}
 use Rattle.log_laws.proofs.LimitedRuns.{laws_of_run, workload_is}
 use Rattle.stage_world.specs.Stages.{Stages}
