@@ -27,3 +27,6 @@ pub mod TellingPass
 pub mod Telling
 pub mod TellingLoop
 pub mod Settled
+pub mod Bounds
+pub mod Ample
+pub mod Quiet
