@@ -12,7 +12,7 @@ use crate::packets::packets_in;
 use crate::stages::Stages;
 use abstract_log::Step;
 use cz_base::{DcId, NoMemory};
-use settling_laws::settling_within;
+use settling_laws::ample_passes_are_enough;
 
 // More passes than each loop makes.
 const PASSES: u32 = 524288;
@@ -26,7 +26,7 @@ impl Stages {
         self.play_until_answered()?;
         self.play_until_told()?;
         self.play_everywhere()?;
-        settling_within();
+        ample_passes_are_enough();
         Ok(())
     }
 

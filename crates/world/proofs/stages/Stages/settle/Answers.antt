@@ -8,4 +8,4 @@ pub play_everywhere-requires : goal.play_everywhere-requires
 play_everywhere-requires c = still_taken _ _ _ c.in_ok-play_until_told.ensures (still_taken _ _ _ c.in_ok-play_until_answered.ensures c.requires)
 
 pub returns : goal.returns
-returns c = plays_ended _ _ c.settling_within.ensures (plays_settling _ _ _ _ c.in_ok-play_until_answered.ensures c.in_ok-play_until_told.ensures c.in_ok-play_everywhere.ensures)
+returns c = plays_ended _ _ c.ample_passes_are_enough.ensures (plays_settling _ _ _ _ c.in_ok-play_until_answered.ensures c.in_ok-play_until_told.ensures c.in_ok-play_everywhere.ensures)
