@@ -1,5 +1,5 @@
 -- A script from its first step to its end.
-use Rattle.std.proofs.Common.{◌≡◌, ℕ, ◌+◌, ◌<◌, ◌≤◌, List, [], ◌∷◌, ◌++◌, length, take, get_or, refl, ap, sym, ◌∙◌, subst, add-one, append_assoc}
+use Rattle.std.proofs.Common.{◌≡◌, false, ℕ, ◌+◌, ◌<◌, ◌≤◌, List, [], ◌∷◌, ◌++◌, length, take, get_or, refl, ap, sym, ◌∙◌, subst, add-one, append_assoc}
 use Rattle.std.specs.List.{All}
 use Rattle.std.proofs.lemmas.List.Elements.{All-get_or}
 use Rattle.std.proofs.lemmas.List.{map_push}
@@ -36,7 +36,7 @@ events_append load z (x ∷ xs) ys =
     ∙ sym (append_assoc (step_of load z x).events (events_of load (step_of load z x).after xs) (events_of load (after_steps load (step_of load z x).after xs) ys))
 
 -- what the laws of settling say of all turns of settling
-abbrev Finishes : Type 1
+abbrev Finishes : Type 0
 Finishes = (w : World) (z : Stages) (steps : List Step) → IsLawful w → StandsFor w z → IsSettling w.workload z steps → IsFinishedBy w z steps
 
 pub finished_after : (script : Script) (ts : List Taken) (s : StagesState) (steps : List Step) → Finishes → HasTaken script ts s → IsSettling script.workload (stages_after script ts) steps

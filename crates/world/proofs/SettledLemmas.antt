@@ -337,7 +337,7 @@ plays_ended a b law plays script ts h =
       steps = one.steps;
       are =
           subst (λ l. IsSettling l z one.steps) same
-          (law w z one.steps (laws_of_run a.workload a.events (subst FitsLimits (sym h.workload) h.fits.limits) run.0) run.1 (λ d within. quiet_after script ts h.built d)
+          (law w z one.steps (laws_of_run a.workload a.events (subst FitsLimits (sym h.workload) h.fits.limits) run.0) run.1 (subst (λ l. AreQuiet l z) (sym same) (quiet_after script ts h.fits h.steps h.built))
             (subst (λ l. IsSettlingUpTo 524288 l z one.steps) (sym same) one.are));
       taken = one.taken;
     }
