@@ -91,7 +91,7 @@ raise_is p v to g done may is new outcome events changed =
     record {
       stages = ap (λ n. record z { floor = n }) up;
       here = refl;
-      whole = record { token = may.whole.token; table = may.whole.table; senders = may.whole.senders; pins = λ n. ap (λ (x : Floored). pin_of x n) new ∙ may.whole.pins n };
+      whole = record { token = may.whole.token; table = may.whole.table; senders = may.whole.senders; pins = λ n. ap (λ (x : Floored). pin_of x n) new ∙ may.whole.pins n; many = ap (λ (x : Floored). length x.pins) new ∙ may.whole.many };
       outcome = outcome ∙ ap (λ n. FloorAt n) up;
       events = events;
       changed = told_of z (floor_raised z to) done.changed (nat_lt z.floor (floor_raised z to).floor) (changed ∙ ap (nat_lt p.floor.floor) up) (floor_tells z to);
@@ -120,7 +120,7 @@ collect_is p m x x' places done may within is new names outcome events changed =
       stages = ap₂ (λ ms ps. record z { maintainers = ms; collected = ps }) (map-set (λ (y : MaintainerState Record). plain y) p.maintainers m x' ∙ ap (set z.maintainers m) kept)
           (names ∙ ap (λ es. p.collected ++ map place_of_entry es) gone);
       here = refl;
-      whole = record { token = may.whole.token; table = may.whole.table; senders = may.whole.senders; pins = may.whole.pins };
+      whole = record { token = may.whole.token; table = may.whole.table; senders = may.whole.senders; pins = may.whole.pins; many = may.whole.many };
       outcome = outcome ∙ ap (λ es. collected_outcome (map lid_at es)) gone;
       events = events ∙ ap (λ es. map (Collect p.dc) (map lid_at es)) gone;
       changed = told_of z turned.after done.changed (has_some (entries_to_go z m)) (changed ∙ ap (λ es. has_some es) gone) (collect_tells p.dc z m);

@@ -1,13 +1,17 @@
 -- A datacentre at the beginning.
-use Rattle.std.proofs.Common.{◌≡◌, ℕ, zero, suc, ◌+◌, ◌≤◌, Bool, true, false, cond, eqb, find, inl, inr, List, [], ◌∷◌, ◌++◌, length, map, set, replicate, refl, ap, ap₂, sym, ◌∙◌, subst, arith, Option, Some, None}
+use Rattle.std.proofs.Common.{◌≡◌, ℕ, zero, suc, ◌+◌, ◌<◌, ◌≤◌, Bool, true, false, cond, eqb, find, inl, inr, List, [], ◌∷◌, ◌++◌, length, map, set, get_or, replicate, refl, ap, ap₂, sym, ◌∙◌, subst, arith, Option, Some, None}
 use Rattle.std.proofs.Math.Seq.{map-set_same}
 use Rattle.std.proofs.lemmas.List.{get_or-replicate, get_or-set_same, get_or-set_other, get_or_past, length-replicate, length-set, map_push}
 use Rattle.std.proofs.lemmas.Bool.{cases_lt}
+use Rattle.std.specs.List.{All}
 use Rattle.std.specs.Option.{option_and_then}
 use Rattle.flstore_rounds.specs.Epochs.{EpochList}
 use Rattle.token_queue.specs.Queues.{QueueState, TokenState, tokenless}
 use Rattle.log_gc.specs.Floors.{fresh, pin_of}
 use Rattle.abstract_log.specs.declared.command.SessionPlan.{SessionPlan}
+use Rattle.abstract_log.specs.declared.command.Workload.{Workload}
+use Rattle.abstract_log.specs.Fits.{FitsLimits, commands_of}
+use Rattle.hyksos.specs.Sessions.{AreCommands}
 use Rattle.stage_world.specs.Stages.{Session, no_queue, queue_at}
 use Rattle.stage_world.specs.MoreTurns.{new_queue}
 use Rattle.stage_world.specs.Opening.{new_session, numbered, sessions_from}
@@ -73,6 +77,16 @@ is_ring e n t t' qs new some first is same held =
     let all : new ≡ set (numbered (λ i. new_queue i e) n) 0 (record (queue_at (numbered (λ i. new_queue i e) n) 0) { token = Some (record t { at = (queue_at (numbered (λ i. new_queue i e) n) 0).number }) }) =
     held ∙ ap₂ (λ xs (u : TokenState). set xs 0 (record (queue_at xs 0) { token = Some (record u { at = (queue_at xs 0).number }) })) is same in
     record { seen = ring_seen e n some t first new all; has = ring_has e n some t first new all }
+
+-- the commands of each session are in their ranges, and their numbers fit
+
+few_commands : (plans : List SessionPlan) (k : ℕ) (d : SessionPlan) → k < length plans → length (get_or plans k d).commands ≤ commands_of plans
+few_commands [] k d inside = absurd (omega (arith, inside))
+few_commands (plan ∷ plans) zero d inside = omega arith
+few_commands (plan ∷ plans) (suc k) d inside = omega (arith, few_commands plans k d (omega (arith, inside)))
+
+pub all_commands : (load : Workload) → FitsLimits load → All (λ (plan : SessionPlan). AreCommands plan.commands) load.sessions
+all_commands load fits k d inside = record { few = omega (arith, few_commands load.sessions k d inside, fits.commands); each = (fits.plans k d inside).commands }
 
 -- no session that is new has a pin
 

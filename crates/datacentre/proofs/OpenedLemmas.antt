@@ -1,6 +1,7 @@
 -- The parts of a datacentre at the beginning are seen as the stage world's opening.
-use Rattle.std.proofs.Common.{◌≡◌, ℕ, List, [], length, map, replicate, refl, ap, ap₂, sym, ◌∙◌, subst, None}
+use Rattle.std.proofs.Common.{◌≡◌, ℕ, List, [], length, map, replicate, refl, ap, ap₂, sym, ◌∙◌, subst, Option, None}
 use Rattle.std.specs.List.{All}
+use Rattle.std.proofs.lemmas.List.{length-replicate}
 use Rattle.causal_deps.specs.Counts.{zero_table}
 use Rattle.abstract_log.specs.declared.command.Workload.{Workload}
 use Rattle.abstract_log.specs.declared.script.Sizes.{Sizes}
@@ -107,4 +108,5 @@ module _ (round : ℕ) (sizes : Sizes) (load : Workload) (d : ℕ) (e : EpochLis
     table = ap (λ (t : Awareness). t.dc) h.table ∙ sym h.here;
     senders = subst (All (λ (s : SenderState). s.dc ≡ p.dc)) (sym h.senders) (All-numbered (λ (s : SenderState). s.dc ≡ p.dc) (λ k. record { dc = d; number = k }) sizes.senders (λ k. sym h.here));
     pins = λ n. ap (λ (g : Floored). pin_of g n) h.floor ∙ nothing_held n ∙ sym (ap (λ xs. pin_in xs n) h.sessions ∙ none_pinned load.dcs d 0 n load.sessions);
+    many = ap (λ (g : Floored). length g.pins) h.floor ∙ length-replicate {A = Option ℕ} 64 None;
   }

@@ -1,6 +1,7 @@
 -- What sessions have pinned, where they change.
-use Rattle.std.proofs.Common.{◌≡◌, ℕ, zero, suc, ◌+◌, ◌<◌, Bool, true, false, cond, eqb, find, List, [], ◌∷◌, length, map, set, get_or, refl, ap, sym, ◌∙◌, arith, Option, Some, None, IsSome}
-use Rattle.std.specs.List.{AllPairs}
+use Rattle.std.proofs.Common.{◌≡◌, ◌≢◌, ℕ, zero, suc, ◌+◌, ◌<◌, Bool, true, false, cond, eqb, find, List, [], ◌∷◌, length, map, set, get_or, refl, ap, sym, ◌∙◌, arith, Option, Some, None, IsSome}
+use Rattle.std.specs.List.{All, AllPairs}
+use Rattle.std.proofs.lemmas.List.Elements.{All-head, All-tail}
 use Rattle.std.specs.Option.{option_and_then, option_map_or}
 use Rattle.std.proofs.lemmas.Bool.{eq-eqb, ne_eqb}
 use Rattle.std.proofs.lemmas.List.{get_or-map, length-map}
@@ -45,6 +46,23 @@ pins_mapped : (f : Session → Session) (xs : List Session) (n : ℕ) → ((x : 
 pins_mapped f [] n same = refl
 pins_mapped f (x ∷ xs) n same = first_kept x (f x) xs (map f xs) n (same x) (pins_mapped f xs n same)
 
+-- one of them is changed, and those of other numbers are asked
+pub pins_other : (xs : List Session) (i : ℕ) (x y : Session) (n : ℕ) → get_or xs i x ≡ x → y.number ≡ x.number → n ≢ x.number → pin_in (set xs i y) n ≡ pin_in xs n
+pins_other [] i x y n is same other = refl
+pins_other (z ∷ zs) zero x y n is same other =
+    ap (λ b. pin_at b y (found_in zs n)) (ne_eqb y.number n (λ e. other (sym e ∙ same)))
+    ∙ sym (ap (λ b. pin_at b z (found_in zs n)) (ne_eqb z.number n (λ e. other (sym e ∙ ap (λ (s : Session). s.number) is))))
+pins_other (z ∷ zs) (suc i) x y n is same other = first_kept z z zs (set zs i y) n (record { number = refl; pin = refl }) (pins_other zs i x y n is same other)
+
+-- what is pinned is the pin of some session, all of which have P
+pub pinned_by : (P : Session → Type 0) (Q : Type 0) (xs : List Session) (n s : ℕ) → All P xs → ((y : Session) → P y → y.pin ≡ Some s → Q) → pin_in xs n ≡ Some s → Q
+pinned_by P Q [] n s all has is = absurd (cc)
+pinned_by P Q (x ∷ xs) n s all has is = at (eqb x.number n) (has x (All-head P x xs all)) (pinned_by P Q xs n s (All-tail P x xs all) has) is
+  where
+    at : (b : Bool) → (x.pin ≡ Some s → Q) → (pin_in xs n ≡ Some s → Q) → pin_at b x (found_in xs n) ≡ Some s → Q
+    at true first later same = first same
+    at false first later same = later same
+
 -- the sessions that get their places
 
 pins_acked : (s p : ℕ) (r : Record) (xs : List Session) (n : ℕ) → pin_in (at_session s (acknowledged p r) xs) n ≡ pin_in xs n
@@ -86,3 +104,15 @@ found_at_number (y ∷ ys) (suc i) x rise within is =
 
 pub pins_held : (xs : List Session) (g : Floored) → AllPairs (λ a b. a < b) (numbers_of xs) → ((n : ℕ) → pin_of g n ≡ pin_in xs n) → (i : ℕ) (x : Session) → i < length xs → get_or xs i x ≡ x → pin_of g x.number ≡ x.pin
 pins_held xs g rise pins i x within is = pins x.number ∙ found_at_number xs i x rise within is
+
+-- the pin of the one that is changed
+pub pin_there : (xs : List Session) (i : ℕ) (x y : Session) → AllPairs (λ a b. a < b) (numbers_of xs) → i < length xs → get_or xs i x ≡ x → y.number ≡ x.number → pin_in (set xs i y) x.number ≡ y.pin
+pin_there [] i x y rise within is same = absurd (omega (arith, within))
+pin_there (z ∷ zs) zero x y rise within is same = ap (λ b. pin_at b y (found_in zs x.number)) (eq-eqb y.number x.number same)
+pin_there (z ∷ zs) (suc i) x y rise within is same =
+    let inside : i < length zs = omega (arith, within) in
+    let number : get_or (numbers_of zs) i x.number ≡ x.number = get_or-map (λ (s : Session). s.number) zs i x x.number inside ∙ ap (λ (s : Session). s.number) is in
+    let size : length (numbers_of zs) ≡ length zs = length-map zs (λ (s : Session). s.number) in
+    let below : z.number < x.number = omega (arith, rise 0 (suc i) x.number (omega arith) (omega (arith, inside, size)), number) in
+    ap (λ b. pin_at b z (found_in (set zs i y) x.number)) (ne_eqb z.number x.number (λ e. absurd (omega (arith, below, e))))
+    ∙ pin_there zs i x y (λ j k d less there. rise (suc j) (suc k) d (omega (arith, less)) (omega (arith, there))) inside is same

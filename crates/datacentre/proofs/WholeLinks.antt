@@ -1,50 +1,55 @@
 -- Turns of a session, and those that use a link, at a whole datacentre.
-use Rattle.std.proofs.Common.{◌≡◌, ℕ, suc, ◌+◌, ◌%◌, ◌<◌, ◌≤◌, Bool, true, false, cond, eqb, ltb, not, List, [], ◌∷◌, ◌++◌, length, map, set, get_or, refl, ap, ap₂, sym, ◌∙◌, subst, arith, mod-lt, Option, Some, None, IsSome}
+use Rattle.std.proofs.Common.{◌≡◌, ℕ, suc, ◌+◌, ◌%◌, ◌<◌, ◌≤◌, Bool, true, false, cond, eqb, ltb, not, List, [], ◌∷◌, ◌++◌, length, map, set, get_or, refl, ap, ap₂, sym, ◌∙◌, subst, arith, inl, inr, is_some, mod-lt, Option, Some, None}
 use Rattle.std.specs.List.{All, Contains, find, position, position_or_len}
-use Rattle.std.specs.Option.{option_and_then, option_map_or}
-use Rattle.std.proofs.lemmas.Bool.{eqb-true, lt-ltb}
-use Rattle.std.proofs.lemmas.List.{set-get_or}
+use Rattle.std.specs.Option.{option_map_or}
+use Rattle.std.proofs.lemmas.Bool.{cases_eq, eqb-true, lt-ltb}
+use Rattle.std.proofs.lemmas.List.{get_or-set_other, get_or-set_same, length-set, set-get_or}
 use Rattle.std.proofs.lemmas.List.Elements.{All-contains, All-get_or, Contains-get_or}
 use Rattle.std.proofs.lemmas.List.Sums.{passes_at_first}
 use Rattle.causal_deps.specs.declared.record.Record.{Record}
-use Rattle.causal_deps.specs.declared.record.Draft.{Draft}
 use Rattle.causal_deps.specs.declared.record.Item.{Item}
 use Rattle.causal_deps.specs.declared.record.Item.TheVariants.{External}
 use Rattle.causal_deps.specs.Counts.{greater_rows}
-use Rattle.abstract_log.specs.declared.command.Command.{Command}
-use Rattle.abstract_log.specs.declared.command.Command.TheVariants.{Append, Put, Get, Tx, Read as ReadCommand, Last}
 use Rattle.abstract_log.specs.declared.event.Event.TheVariants.{Receive}
 use Rattle.abstract_log.specs.declared.script.Outcome.TheVariants.{Absent, Sent}
-use Rattle.abstract_log.specs.Commands.{is_write}
+use Rattle.abstract_log.specs.declared.world.World.{World}
+use Rattle.abstract_log.specs.Commands.{no_plan}
+use Rattle.abstract_log.specs.Fits.{FitsCommand, FitsPlan}
 use Rattle.abstract_log.specs.Worlds.{log_of}
-use Rattle.abstract_log.specs.declared.answer.Answer.TheVariants.{Read}
-use Rattle.log_laws.proofs.Places.{All-at_place}
 use Rattle.flstore_rounds.specs.Heads.{Pair}
 use Rattle.awareness_table.specs.Awareness.{Awareness}
 use Rattle.maintainer.specs.Maintainers.{MaintainerState}
+use Rattle.tag_indexer.specs.Indexers.{IndexerState}
+use Rattle.log_gc.specs.Floors.{Floored, pin_of}
+use Rattle.hyksos.specs.Sessions.{HasFound, writes}
+use Rattle.hyksos.specs.Shelves.{ShelfState}
+use Rattle.hyksos.specs.Turns.{Taken, turn_of, turned}
+use Rattle.stage_turns.specs.Shelves.{ShowsLog}
 use Rattle.record_codec.specs.declared.message.Message.{Message}
 use Rattle.record_codec.specs.Wire.{SpellsMessage}
 use Rattle.sender_receiver.specs.Sending.{SenderState}
-use Rattle.stage_world.specs.Stages.{Datacentre, Session, batcher_at}
+use Rattle.stage_world.specs.Stages.{Datacentre, Session, batcher_at, vector_at}
 use Rattle.stage_world.specs.Turns.{begun, quiet, where_there}
-use Rattle.stage_world.specs.StandsFor.{IsAsFar, IsPinned, is_look}
-use Rattle.stage_world.specs.ClientTurns.{client_of, client_turn, replied}
+use Rattle.stage_world.specs.StandsFor.{IsAsFar}
+use Rattle.stage_world.specs.ClientTurns.{client_of, client_turn}
 use Rattle.stage_world.specs.Idle.{apart_from_epochs}
 use Rattle.stage_world.specs.MoreTurns.{message_of, names_of, receive_turn, received_outcome}
 use Rattle.datacentre.specs.declared.parts.Parts.{Parts}
 use Rattle.stage_turns.specs.declared.done.TurnDone.{TurnDone}
-use Rattle.stage_turns.specs.Changing.{TellsNews, read_changes, write_changes}
-use Rattle.stage_turns.specs.Clients.{MayRead, MayWrite, batchers_written, begin_events, draft_submitted, next_command, position_in, position_of, read_by, read_outcome, reply_events, session_read, session_written, shown_in, top_in, write_events, write_outcome, writes}
+use Rattle.stage_turns.specs.Changing.{TellsNews}
+use Rattle.stage_turns.specs.Clients.{IsSessionTurn, MayRead, MayWrite, batchers_written, session_changes, shelf_for, write_events, write_outcome}
 use Rattle.stage_turns.specs.Lent.{maintainers_seen}
-use Rattle.datacentre.specs.Seen.{StandsForALog, seen}
+use Rattle.datacentre.specs.Seen.{StandsForALog, pin_in, seen}
 use Rattle.stage_turns.specs.Told.{MayLook, MayTell, told_by}
-use Rattle.datacentre.specs.Turning.{IsBuiltCommand, IsPacketOf, IsTurned, MayTurn, send_told}
-use Rattle.datacentre.proofs.PinLemmas.{HasItsPin, pins_set}
+use Rattle.datacentre.specs.Turning.{IsPacketOf, IsTurned, MayTurn, send_told}
+use Rattle.datacentre.proofs.PinLemmas.{pin_there, pinned_by, pins_held, pins_other, pins_set}
 use Rattle.datacentre.proofs.WholeTurns.{told_of}
-use Rattle.stage_turns.proofs.ChangeLemmas.{read_tells, receive_tells, same_tells, write_tells}
+use Rattle.stage_turns.proofs.ChangeLemmas.{receive_tells, same_tells}
 use Rattle.stage_turns.proofs.AckLemmas.{position_none, position_some}
-use Rattle.stage_turns.proofs.ClientIs.{read_is_turn, write_is_turn}
-use Rattle.stage_turns.proofs.ClientMay.{may_read, may_write}
+use Rattle.stage_turns.proofs.ClientIs.{write_is_turn}
+use Rattle.stage_turns.proofs.SessionChanges.{session_moves, session_tells, write_tells}
+use Rattle.stage_turns.proofs.SessionIs.{IsHeld, reads_unpinned, session_held, session_is}
+use Rattle.stage_turns.proofs.ClientMay.{has_found, may_read, may_write, shows_lent, shows_log}
 use Rattle.stage_turns.proofs.ToldLemmas.{AreLent, may_look, may_tell, told_is, whole_is_lent}
 
 abbrev has_number : ℕ → Session → Bool
@@ -94,104 +99,120 @@ module _ (p : Parts) (s i : ℕ) (x : Session) (may : MayTurn p) (found : Some i
   has : Contains p.sessions x
   has = subst (Contains p.sessions) (sym is) (Contains-get_or p.sessions i x within)
 
+  abbrev w : World
+  w = may.log.world
+
+  abbrev log : List Record
+  log = log_of w p.dc
+
+  -- what is pinned is the session's own, and not below the floor
+
+  pin_here : pin_of p.floor x.number ≡ x.pin
+  pin_here = pins_held p.sessions p.floor may.log.stands.ordered may.whole.pins i x within (sym is)
+
+  pins_above : (n q : ℕ) → pin_of p.floor n ≡ Some q → p.floor.floor ≤ q
+  pins_above n q held =
+      pinned_by (IsAsFar w.workload w.sessions log p.dc p.floor.floor) (p.floor.floor ≤ q) p.sessions n q may.log.stands.sessions (λ y far pin. (far.pinned q pin).kept) (sym (may.whole.pins n) ∙ held)
+
+  far : IsAsFar w.workload w.sessions log p.dc p.floor.floor x
+  far = All-contains (IsAsFar w.workload w.sessions log p.dc p.floor.floor) p.sessions x may.log.stands.sessions has
+
+  small : x.number < 64
+  small = omega (arith, far.home.there, may.log.lawful.limits.sessions)
+
+  fits : All FitsCommand x.commands
+  fits = subst (All FitsCommand) (sym far.commands) (All-get_or (FitsPlan w.workload.dcs) w.workload.sessions x.number no_plan far.home.there may.log.lawful.limits.plans).commands
+
   pub write_may : writes x ≡ true → MayWrite s x p.batchers
-  write_may is_write = subst (λ n. MayWrite n x p.batchers) number (may_write may.log.world p.dc z may.log.lawful may.log.stands x has is_write)
+  write_may is_write = subst (λ n. MayWrite n x p.batchers) number (may_write w p.dc z may.log.lawful may.log.stands x has is_write)
 
-  reads : All (λ (y : Session). All IsBuiltCommand y.commands) p.sessions → writes x ≡ false → IsSome (read_by x)
-  reads built other = by_command (next_command x) refl other
-    where
-      here : All IsBuiltCommand x.commands
-      here = subst (λ (y : Session). All IsBuiltCommand y.commands) (sym is) (All-get_or (λ (y : Session). All IsBuiltCommand y.commands) p.sessions i x within built)
+  pub read_may : writes x ≡ false → MayRead s p.first_maintainers x p.maintainers p.vectors p.indexers p.floor
+  read_may other =
+      subst (λ n. MayRead n p.first_maintainers x p.maintainers p.vectors p.indexers p.floor) number
+      (may_read w p.dc z may.log.lawful may.log.stands x has p.maintainers p.floor other refl refl pin_here pins_above)
 
-      by_kind : (c : Command) → IsBuiltCommand c → is_write c ≡ false → IsSome (position_in c)
-      by_kind (Append tags body) may none = absurd (cc)
-      by_kind (Put key body) may none = absurd (cc)
-      by_kind (Get key) may none = absurd may
-      by_kind (Tx keys) may none = absurd may
-      by_kind (ReadCommand q) may none = refl
-      by_kind (Last tag n) may none = absurd may
+  shows : ShowsLog (vector_at p.vectors (s % p.first_maintainers)) p.maintainers p.indexers p.floor log
+  shows =
+      shows_lent (vector_at p.vectors (s % p.first_maintainers)) p.maintainers p.indexers p.floor log
+      (shows_log w p.dc z may.log.lawful may.log.stands (s % p.first_maintainers) p.floor (omega (arith, mod-lt s may.log.stands.served.0, may.log.stands.served.1)) refl pins_above)
 
-      by_command : (o : Option Command) → next_command x ≡ o → option_map_or is_write o true ≡ false → IsSome (option_and_then position_in o)
-      by_command None same none = absurd (cc)
-      by_command (Some c) same none = by_kind c (All-at_place IsBuiltCommand x.commands x.standing.answered c here same) none
+  -- each log that the stages show gives the turn: that of the world, too
+  pub turn_by_log : (P : List Record → Type 0) → ((l : List Record) → ShowsLog (vector_at p.vectors (s % p.first_maintainers)) p.maintainers p.indexers p.floor l → HasFound l x → P l) → P log
+  turn_by_log P all = all log shows (has_found w p.dc z may.log.lawful may.log.stands x has)
 
-  pub read_may : All (λ (y : Session). All IsBuiltCommand y.commands) p.sessions → writes x ≡ false → MayRead s p.first_maintainers x p.maintainers p.vectors
-  read_may built other =
-      subst (λ n. MayRead n p.first_maintainers x p.maintainers p.vectors) number
-      (may_read may.log.world p.dc z may.log.lawful may.log.stands x has p.maintainers (reads built other) refl)
-
-  written_pin : (y : Session) → y ≡ session_written x → HasItsPin x y
-  written_pin y new = at y (draft_submitted x) new
-    where
-      at : (y : Session) (o : Option Draft) → y ≡ option_map_or (λ draft. begun x) o x → HasItsPin x y
-      at y None is = record { number = ap (λ (s : Session). s.number) is; pin = ap (λ (s : Session). s.pin) is }
-      at y (Some draft) is = record { number = ap (λ (s : Session). s.number) is; pin = ap (λ (s : Session). s.pin) is }
-
-  -- a session that reads a position has no pin
-  no_pin : IsSome (read_by x) → x.pin ≡ None
-  no_pin reads = at x.pin refl
-    where
-      far : IsAsFar may.log.world.workload may.log.world.sessions (log_of may.log.world p.dc) p.dc p.floor.floor x
-      far = All-contains (IsAsFar may.log.world.workload may.log.world.sessions (log_of may.log.world p.dc) p.dc p.floor.floor) p.sessions x may.log.stands.sessions has
-
-      looked : (c : Command) → is_look c ≡ true → IsSome (position_in c) → ⊥
-      looked (Append tags body) looks some = absurd (cc)
-      looked (Put key body) looks some = absurd (cc)
-      looked (Get key) looks some = absurd (cc)
-      looked (Tx keys) looks some = absurd (cc)
-      looked (ReadCommand q) looks some = absurd (cc)
-      looked (Last tag n) looks some = absurd (cc)
-
-      at : (o : Option ℕ) → x.pin ≡ o → o ≡ None
-      at None is = refl
-      at (Some s) is =
-          let pinned : IsPinned (log_of may.log.world p.dc) p.floor.floor x s = far.pinned s is in
-          absurd (looked pinned.command pinned.looks (subst (λ o. IsSome (option_and_then position_in o)) pinned.is reads))
-
-  abbrev read_done : Session
-  read_done = replied (Read (shown_in p.maintainers (position_of x) (top_in p.vectors p.first_maintainers s))) (top_in p.vectors p.first_maintainers s) x
-
-  read_pin : (y : Session) → All (λ (z : Session). All IsBuiltCommand z.commands) p.sessions → writes x ≡ false
-      → y ≡ session_read p.maintainers (top_in p.vectors p.first_maintainers s) x → HasItsPin x y
-  read_pin y built other new = at y (ltb (top_in p.vectors p.first_maintainers s) x.standing.floor) new
-    where
-      at : (y : Session) (b : Bool) → y ≡ cond b (begun x) read_done → HasItsPin x y
-      at y true is = record { number = ap (λ (z : Session). z.number) is; pin = ap (λ (z : Session). z.pin) is }
-      at y false is = record { number = ap (λ (z : Session). z.number) is; pin = ap (λ (z : Session). z.pin) is ∙ sym (no_pin (reads built other)) }
-
-  pub write_is : (x' : Session) (bs : List (List Item)) (done : TurnDone) → writes x ≡ true → x' ≡ session_written x → bs ≡ batchers_written x p.batchers
-      → done.outcome ≡ write_outcome x → done.events ≡ write_events x → done.changed ≡ write_changes x
+  pub write_is : (x' : Session) (bs : List (List Item)) (done : TurnDone) → writes x ≡ true → x' ≡ begun x → bs ≡ batchers_written x p.batchers
+      → done.outcome ≡ write_outcome x → done.events ≡ write_events x → done.changed ≡ not x.standing.begun
       → IsTurned p (record p { sessions = set p.sessions i x'; batchers = bs }) done (client_turn p.dc z s)
   write_is x' bs done is_write new batchers outcome events changed =
       subst (IsTurned p (record p { sessions = set p.sessions i x'; batchers = bs }) done)
       (sym (turn_of_it ∙ write_is_turn p.dc z i x may.log.stands.ordered within (sym is) is_write)) (record {
         stages = ap₂ (λ y b. record z { sessions = set p.sessions i y; batchers = b }) new batchers;
         here = refl;
-        whole = record { token = may.whole.token; table = may.whole.table; senders = may.whole.senders; pins = λ n. may.whole.pins n ∙ sym (pins_set p.sessions i x x' n (sym is) (written_pin x' new)) };
+        whole = record {
+          token = may.whole.token;
+          table = may.whole.table;
+          senders = may.whole.senders;
+          pins = λ n. may.whole.pins n ∙ sym (pins_set p.sessions i x x' n (sym is) (record { number = ap (λ (y : Session). y.number) new; pin = ap (λ (y : Session). y.pin) new }));
+          many = may.whole.many;
+        };
         outcome = outcome;
         events = events;
-        changed = told_of z (record z { sessions = set z.sessions i (session_written x); batchers = batchers_written x z.batchers }) done.changed (write_changes x) changed (write_tells z i x within (sym is));
+        changed = told_of z (record z { sessions = set z.sessions i (begun x); batchers = batchers_written x z.batchers }) done.changed (not x.standing.begun) changed (write_tells z i x within (sym is));
       })
 
-  pub read_is : (x' : Session) (ms : List (MaintainerState Record)) (vs : List Pair) (done : TurnDone) → All (λ (y : Session). All IsBuiltCommand y.commands) p.sessions → writes x ≡ false
-      → x' ≡ session_read p.maintainers (top_in p.vectors p.first_maintainers s) x → ms ≡ p.maintainers → vs ≡ p.vectors
-      → done.outcome ≡ read_outcome (top_in p.vectors p.first_maintainers s) x
-      → done.events ≡ begin_events x ++ reply_events p.dc p.maintainers (top_in p.vectors p.first_maintainers s) x
-      → done.changed ≡ read_changes (top_in p.vectors p.first_maintainers s) x
-      → IsTurned p (record p { sessions = set p.sessions i x'; maintainers = ms; vectors = vs }) done (client_turn p.dc z s)
-  read_is x' ms vs done built other new maintainers vectors outcome events changed =
-      let top : ℕ → ℕ = top_in p.vectors p.first_maintainers in
-      subst (IsTurned p (record p { sessions = set p.sessions i x'; maintainers = ms; vectors = vs }) done)
-      (sym (turn_of_it ∙ read_is_turn p.dc z i x may.log.stands.ordered within (sym is) p.maintainers refl (reads built other))) (record {
-        stages =
-            ap₂ (λ ns ws. record z { sessions = set p.sessions i x'; maintainers = maintainers_seen ns; vectors = ws }) maintainers vectors
-            ∙ ap (λ y. record z { sessions = set p.sessions i y }) (new ∙ ap (λ n. session_read p.maintainers (top n) x) (sym number));
+  abbrev shelf : ShelfState
+  shelf = shelf_for x.number p.first_maintainers p.maintainers p.vectors p.indexers p.floor
+
+  abbrev taken : Taken
+  taken = turn_of log shelf x
+
+  held : writes x ≡ false → IsHeld p.floor.floor x.number p.floor.pins taken
+  held other = session_held log shelf x pin_here other (reads_unpinned w p.dc z x far)
+
+  -- what the turn leaves pinned
+  pins_left : (x' : Session) (g : Floored) → writes x ≡ false → x' ≡ taken.session → g.pins ≡ set p.floor.pins x.number taken.session.pin → (n : ℕ) → pin_of g n ≡ pin_in (set p.sessions i x') n
+  pins_left x' g other new pins n =
+      let same_number : x'.number ≡ x.number = ap (λ (y : Session). y.number) new ∙ (held other).number in
+      elim (cases_eq n x.number) [
+        | inl same ↦
+            ap (λ k. get_or g.pins k None) same ∙ ap (λ ps. get_or ps x.number None) pins
+            ∙ get_or-set_same p.floor.pins x.number taken.session.pin None (omega (arith, small, may.whole.many))
+            ∙ sym (ap (pin_in (set p.sessions i x')) same ∙ pin_there p.sessions i x x' may.log.stands.ordered within (sym is) same_number ∙ ap (λ (y : Session). y.pin) new)
+        | inr another ↦
+            ap (λ ps. get_or ps n None) pins ∙ get_or-set_other p.floor.pins x.number n taken.session.pin None another ∙ may.whole.pins n
+            ∙ sym (pins_other p.sessions i x x' n (sym is) same_number another)
+      ]
+
+  pub read_is : (x' : Session) (ms : List (MaintainerState Record)) (vs : List Pair) (indexers' : List IndexerState) (g : Floored) (done : TurnDone) → writes x ≡ false
+      → ms ≡ p.maintainers → vs ≡ p.vectors → indexers' ≡ p.indexers
+      → IsSessionTurn p.dc log (shelf_for s p.first_maintainers p.maintainers p.vectors p.indexers p.floor) x done x' g
+      → IsTurned p (record p { sessions = set p.sessions i x'; maintainers = ms; vectors = vs; indexers = indexers'; floor = g }) done (client_turn p.dc z s)
+  read_is x' ms vs indexers' g done other maintainers vectors indexers turn =
+      let t : IsSessionTurn p.dc log shelf x done x' g = subst (λ n. IsSessionTurn p.dc log (shelf_for n p.first_maintainers p.maintainers p.vectors p.indexers p.floor) x done x' g) (sym number) turn in
+      let h : IsHeld p.floor.floor x.number p.floor.pins taken = held other in
+      let low : g.floor ≡ p.floor.floor = ap (λ (f : Floored). f.floor) t.floor ∙ h.floor in
+      let pins : g.pins ≡ set p.floor.pins x.number taken.session.pin = ap (λ (f : Floored). f.pins) t.floor ∙ h.pins in
+      subst (IsTurned p (record p { sessions = set p.sessions i x'; maintainers = ms; vectors = vs; indexers = indexers'; floor = g }) done)
+      (sym (turn_of_it ∙ session_is w p.dc z may.log.stands i x within (sym is) fits p.maintainers p.floor refl refl other)) (record {
+        stages = λ j. record z {
+          sessions = set p.sessions i (t.session j);
+          maintainers = maintainers_seen (maintainers j);
+          vectors = vectors j;
+          indexers = indexers j;
+          floor = low j;
+        };
         here = refl;
-        whole = record { token = may.whole.token; table = may.whole.table; senders = may.whole.senders; pins = λ n. may.whole.pins n ∙ sym (pins_set p.sessions i x x' n (sym is) (read_pin x' built other new)) };
-        outcome = outcome ∙ ap (λ n. read_outcome (top n) x) (sym number);
-        events = events ∙ ap (λ n. begin_events x ++ reply_events p.dc p.maintainers (top n) x) (sym number);
-        changed = told_of z (record z { sessions = set z.sessions i (session_read p.maintainers (top x.number) x) }) done.changed (read_changes (top x.number) x)
-            (changed ∙ ap (λ n. read_changes (top n) x) (sym number)) (read_tells z i x within (sym is) p.maintainers (top x.number));
+        whole = record {
+          token = may.whole.token;
+          table = may.whole.table;
+          senders = may.whole.senders;
+          pins = pins_left x' g other t.session pins;
+          many = ap (λ (ps : List (Option ℕ)). length ps) pins ∙ length-set p.floor.pins x.number taken.session.pin ∙ may.whole.many;
+        };
+        outcome = t.outcome;
+        events = t.events;
+        changed = told_of z (record z { sessions = set z.sessions i taken.session }) done.changed (session_changes (is_some x.pin) (turned log shelf x)) t.changed
+            (session_tells z i x within (sym is) (session_changes (is_some x.pin) (turned log shelf x)) taken.session (session_moves log x shelf other (λ q pin. (far.pinned q pin).begun)));
       })
 
 -- no session has the number
@@ -240,7 +261,7 @@ module _ (p : Parts) (k to n : ℕ) (x : SenderState) (may : MayTurn p) (within 
       subst (λ b. IsTurned p (record p { senders = set p.senders k x' }) done (where_there b (seen p) (send_told p.dc (seen p) k to))) (sym (lt-ltb k (length p.senders) within)) (record {
         stages = ap (λ (xs : List SenderState). record (seen p) { senders = length xs }) left;
         here = refl;
-        whole = record { token = may.whole.token; table = may.whole.table; senders = subst (All (λ (s : SenderState). s.dc ≡ p.dc)) (sym left) may.whole.senders; pins = may.whole.pins };
+        whole = record { token = may.whole.token; table = may.whole.table; senders = subst (All (λ (s : SenderState). s.dc ≡ p.dc)) (sym left) may.whole.senders; pins = may.whole.pins; many = may.whole.many };
         outcome = outcome ∙ ap (λ (m : Message). Sent (names_of m.records) 0 false) told_here;
         events = events;
         changed = told_of (seen p) (seen p) done.changed false changed (same_tells (apart_from_epochs (seen p)));
@@ -259,7 +280,7 @@ pub receive_is : (p : Parts) (r : ℕ) (m : Message) (bs : List (List Item)) (ta
 receive_is p r m bs table done may rows batchers outcome events changed = record {
   stages = ap₂ (λ b t. record (seen p) { batchers = b; table = t }) batchers (ap (λ (t : Awareness). t.table) rows);
   here = refl;
-  whole = record { token = may.whole.token; table = ap (λ (t : Awareness). t.dc) rows ∙ may.whole.table; senders = may.whole.senders; pins = may.whole.pins };
+  whole = record { token = may.whole.token; table = ap (λ (t : Awareness). t.dc) rows ∙ may.whole.table; senders = may.whole.senders; pins = may.whole.pins; many = may.whole.many };
   outcome = outcome;
   events = events;
   changed = receive_tells (seen p) r m done.changed (mod-lt r may.log.stands.members.ranges.batchers.0) changed;

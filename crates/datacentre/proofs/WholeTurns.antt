@@ -39,6 +39,11 @@ use Rattle.stage_turns.proofs.StampStands.{queue_may_stamp, queue_seen, token_ma
 use Rattle.stage_turns.proofs.StampTurns.{stamp_is_turn}
 use Rattle.stage_turns.proofs.TellingLemmas.{gossip_is_turn, may_gossip}
 
+-- a clause of a result, from another
+pub if_ok : {T E : Type 0} (r : Result T E) (P Q : T → Type 0) → IfOk r P → ((x : T) → P x → Q x) → IfOk r Q
+if_ok (Ok x) P Q p f = f x p
+if_ok (Err e) P Q p f = tt
+
 -- five clauses of one result
 pub if_five : {T E : Type 0} (r : Result T E) (A B : Type 0) (P Q R S : T → Type 0) → OnOk r A → OnOk r B → IfOk r P → IfOk r Q → IfOk r R → ((x : T) → A → B → P x → Q x → R x → S x) → IfOk r S
 if_five (Ok x) A B P Q R S a b p q t f = f x a b p q t
@@ -94,7 +99,7 @@ flush_is p b x y fs done may within is empty filters outcome events changed =
     there p (record p { batchers = set p.batchers b y; filters = fs }) done (ltb b (length p.batchers)) (flush_turn z b) (lt-ltb b (length p.batchers) within) (record {
       stages = ap₂ (λ (ys : List Item) gs. record z { batchers = set p.batchers b ys; filters = gs }) empty (filters ∙ ap (fold (taken_by p.map) p.filters) at);
       here = refl;
-      whole = record { token = may.whole.token; table = may.whole.table; senders = may.whole.senders; pins = may.whole.pins };
+      whole = record { token = may.whole.token; table = may.whole.table; senders = may.whole.senders; pins = may.whole.pins; many = may.whole.many };
       outcome = outcome ∙ ap (λ (xs : List Item). unless_empty xs (Flushed (flush_items p.map p.filters xs))) at;
       events = events;
       changed = told_of z (flush_turn z b).after done.changed (has_some (batcher_at z.batchers b)) (changed ∙ ap (λ (xs : List Item). has_some xs) at) (flush_tells z b);
@@ -143,7 +148,7 @@ pass_is p f q x y fs done may in_f in_q is filters new outcome events changed =
           ∙ ap (λ t. record z { filters = set p.filters f (record (filter_at p.filters f) { out = [] }); queues = set z.queues q (record (queue_at z.queues q) { items = (queue_at z.queues q).items ++ items }); token = t })
           (token_stays p.queues z.token q y may.whole.token in_q kept);
       here = refl;
-      whole = record { token = have_seen p.queues z.token q y may.whole.token in_q kept; table = may.whole.table; senders = may.whole.senders; pins = may.whole.pins };
+      whole = record { token = have_seen p.queues z.token q y may.whole.token in_q kept; table = may.whole.table; senders = may.whole.senders; pins = may.whole.pins; many = may.whole.many };
       outcome = outcome;
       events = events;
       changed = told_of z (pass_turn z f q).after done.changed (has_some items) changed (pass_tells z f q in_f);
@@ -173,7 +178,7 @@ stamp_is p q x y xs done may within is new sessions outcome events changed =
           ∙ ap (λ ss. record z { sessions = ss; queues = turned.after.queues; token = turned.after.token }) (sessions ∙ ap (λ a. sessions_stamped a p.sessions) at ∙ turn.sessions)
           ∙ sym turn.others;
       here = refl;
-      whole = record { token = subst (HaveToken (set p.queues q y)) (sym token) has; table = may.whole.table; senders = may.whole.senders; pins = λ n. may.whole.pins n ∙ sym (ap (λ ss. pin_in ss n) sessions ∙ pins_stamped x p.sessions n) };
+      whole = record { token = subst (HaveToken (set p.queues q y)) (sym token) has; table = may.whole.table; senders = may.whole.senders; pins = λ n. may.whole.pins n ∙ sym (ap (λ ss. pin_in ss n) sessions ∙ pins_stamped x p.sessions n); many = may.whole.many };
       outcome = outcome ∙ ap outcome_stamped at ∙ turn.outcome;
       events = events ∙ ap (events_stamped p.dc) at ∙ turn.events;
       changed = told_of z turned.after done.changed (stamp_changes (queue_at p.queues q)) (changed ∙ ap stamp_changes at) turn.changed;
@@ -190,7 +195,7 @@ pub token_moved_is : (p : Parts) (qs : List QueueState) (done : TurnDone) → Ma
 token_moved_is p qs done may queues token has outcome events changed = record {
   stages = ap₂ (λ xs t. record (seen p) { queues = xs; token = t }) queues token;
   here = refl;
-  whole = record { token = subst (HaveToken qs) (sym token) has; table = may.whole.table; senders = may.whole.senders; pins = may.whole.pins };
+  whole = record { token = subst (HaveToken qs) (sym token) has; table = may.whole.table; senders = may.whole.senders; pins = may.whole.pins; many = may.whole.many };
   outcome = outcome;
   events = events;
   changed = told_of (seen p) (token_turn (seen p)).after done.changed (nat_lt 1 (token_seen p.queues).queues) (changed ∙ ap (nat_lt 1) (sym (token_may p may).ring))
@@ -234,7 +239,7 @@ place_is p q m queue queue' x x' done may in_q in_m is_q is_m new_q new_m outcom
           (map-set (λ (y : MaintainerState Record). plain y) p.maintainers m x' ∙ turn.maintainers)
           ∙ ap (λ t. record turned.after { token = t }) (token_stays p.queues z.token q queue' may.whole.token in_q kept);
       here = refl;
-      whole = record { token = have_seen p.queues z.token q queue' may.whole.token in_q kept; table = may.whole.table; senders = may.whole.senders; pins = may.whole.pins };
+      whole = record { token = have_seen p.queues z.token q queue' may.whole.token in_q kept; table = may.whole.table; senders = may.whole.senders; pins = may.whole.pins; many = may.whole.many };
       outcome = turn.outcome;
       events = events;
       changed = told_of z turned.after done.changed (has_some (outbox_for (queue_at z.queues q) m)) (changed ∙ ap (λ (a : QueueState). has_some (outbox_for a m)) (queue_lent p q queue in_q is_q))
@@ -263,7 +268,7 @@ gossip_is p m k x x' vs done may in_m in_k is same told outcome events changed =
     (both_true (ltb m (length p.maintainers)) (ltb k (length p.maintainers)) (lt-ltb m (length p.maintainers) in_m) (lt-ltb k (length p.maintainers) in_k)) (record {
       stages = ap₂ (λ ms ws. record z { maintainers = maintainers_seen ms; vectors = ws }) left vectors;
       here = refl;
-      whole = record { token = may.whole.token; table = may.whole.table; senders = may.whole.senders; pins = may.whole.pins };
+      whole = record { token = may.whole.token; table = may.whole.table; senders = may.whole.senders; pins = may.whole.pins; many = may.whole.many };
       outcome = outcome ∙ ap (λ ws. Head (head (vector_at ws k))) vectors;
       events = events;
       changed = subst (λ ws. TellsChange done.changed z (record z { vectors = ws })) vectors (gossip_tells z vs done.changed changed);
@@ -305,6 +310,7 @@ learn_is p v v' ms table learnt done may is maintainers vector new upto outcome 
         table = ap (λ (t : Awareness). t.dc) new ∙ may.whole.table;
         senders = may.whole.senders;
         pins = may.whole.pins;
+        many = may.whole.many;
       };
       outcome = outcome ∙ ap (λ t. Learnt (row_of t p.dc)) rows;
       events = events ∙ ap (λ a. row_events p.dc (row_of p.table.table p.dc) (row_learnt p.dc p.maintainers a p.table.table p.learnt)) at ∙ turn.events;

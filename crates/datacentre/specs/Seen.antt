@@ -46,12 +46,13 @@ abbrev pub pin_in : List Session → ℕ → Option ℕ
 pin_in xs n = option_and_then (λ x. x.pin) (find (λ x. x.number == n) xs)
 
 -- One queue has the token; table and senders are the datacentre's own; what sessions have pinned, and no more, is held against
--- collection.
+-- collection, where there is room for 64 of them.
 pub record IsWhole (p : Parts) : Type 0 where
   pub token : HaveToken p.queues (token_seen p.queues)
   pub table : p.table.dc ≡ p.dc
   pub senders : All (λ s. s.dc ≡ p.dc) p.senders
   pub pins : (n : ℕ) → pin_of p.floor n ≡ pin_in p.sessions n
+  pub many : length p.floor.pins ≡ 64
 
 -- Stages of datacentre d that stand for some log: that of a world which a run has left.
 pub record StandsForALog (d : ℕ) (z : Datacentre) : Type 0 where

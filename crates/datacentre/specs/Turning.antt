@@ -1,7 +1,5 @@
 -- What a turn of a datacentre asks, what it leaves, and what it answers.
-use Rattle.std.specs.Prelude.{◌≡◌, ⊤, ℕ, ◌<◌, ◌≤◌, false, List, length, Option, Some, None, All, Result, MatchOption, MatchResult}
-use Rattle.abstract_log.specs.declared.command.Command.{Command}
-use Rattle.abstract_log.specs.declared.command.Command.TheVariants.{Append, Put, Get, Tx, Read, Last}
+use Rattle.std.specs.Prelude.{◌≡◌, ⊤, ℕ, ◌<◌, ◌≤◌, false, List, length, Option, Some, None, Result, MatchOption, MatchResult}
 use Rattle.abstract_log.specs.declared.script.Step.{Step}
 use Rattle.abstract_log.specs.declared.script.Step.TheVariants.{Client, Flush, Pass, Stamp, Token, Place, Gossip, Post, Learn, Send, Deliver, Lose, Copy, Floor, Collect, Announce, Mark, AddMaintainer, AddBatcher, AddQueue, AddSender, AddReceiver}
 use Rattle.stage_world.specs.Stages.{Datacentre}
@@ -58,18 +56,9 @@ Sends d z k e result new = MatchResult result
     (λ sent. TookTurn d z (turn_of d z (Send d k e)) sent.0 new × IsPacketOf d z k e sent.1)
     (λ _. HasFailed new)
 
--- an append, a put or a read
-abbrev pub IsBuiltCommand : Command → Type 0
-IsBuiltCommand (Append tags body) = ⊤
-IsBuiltCommand (Put key body) = ⊤
-IsBuiltCommand (Get key) = ⊥
-IsBuiltCommand (Tx keys) = ⊥
-IsBuiltCommand (Read lid) = ⊤
-IsBuiltCommand (Last tag n) = ⊥
-
 -- the steps that are taken by `turn` so far
 abbrev pub IsBuilt : Datacentre → Step → Type 0
-IsBuilt z (Client s) = All (λ x. All IsBuiltCommand x.commands) z.sessions
+IsBuilt z (Client s) = ⊤
 IsBuilt z (Flush d b) = ⊤
 IsBuilt z (Pass d f q) = ⊤
 IsBuilt z (Stamp d q) = ⊤

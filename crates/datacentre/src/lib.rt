@@ -12,5 +12,6 @@ mod parts;
 mod taking;
 
 pub use datacentre::Datacentre;
+pub use hyksos::Session;
 pub use stage_turns as turns;
-pub use stage_turns::{Session, TurnDone};
+pub use stage_turns::TurnDone;

@@ -1,22 +1,23 @@
 //! The members of a datacentre's stages at the beginning, each kind by number.
-ghost use Rattle.std.specs.Prelude.{◌≡◌, ◌<◌, ◌≤◌, ◌^◌, [], length, replicate, slice_set, Some, None, IfOk};
+ghost use Rattle.std.specs.Prelude.{◌≡◌, ◌<◌, ◌≤◌, ◌^◌, [], length, replicate, slice_set, Some, None, All, IfOk};
 ghost use Rattle.flstore_rounds.specs.Heads.{blank};
+ghost use Rattle.hyksos.specs.Sessions.{AreCommands};
 ghost use Rattle.maintainer.specs.Maintainers.{empty};
 ghost use Rattle.tag_indexer.specs.Indexers.{empty as nothing_posted};
 ghost use Rattle.toid_filter.specs.Filters.{new_filter};
 ghost use Rattle.stage_world.specs.MoreTurns.{new_queue};
 ghost use Rattle.stage_world.specs.Stages.{queue_at};
-ghost use Rattle.stage_world.specs.Opening.{numbered, sessions_from};
+ghost use Rattle.stage_world.specs.Opening.{new_session, numbered, sessions_from};
 ghost use Rattle.stage_turns.specs.Lent.{queues_seen, HaveToken};
 ghost use Rattle.datacentre.specs.Seen.{first_token};
 
-use crate::Session;
-use abstract_log::SessionPlan;
+use abstract_log::{Command, SessionPlan};
 use batcher::Batcher;
 use causal_deps::Record;
 use cz_base::{DcId, NoMemory, Seq};
 use flstore_rounds::Epochs;
 use head_gossip::Vector;
+use hyksos::Session;
 use maintainer::Maintainer;
 use sender_receiver::Sender;
 use std::alloc::Global;
@@ -134,17 +135,37 @@ pub(crate) fn new_sessions(
 ) -> Result<Seq<Session>, NoMemory>
     requires dcs { (1 ≤ dcs) × (dcs ≤ 8) }
     requires few { length plans.now < 2 ^ 32 }
+    requires commands { All (λ plan. AreCommands plan.commands) plans.now }
     ensures { IfOk result (λ sessions. sessions ≡ sessions_from dcs dc 0 plans.now) }
 {
     let mut sessions = Seq::new(alloc);
     let mut number = 0;
     for plan in plans.as_slice() {
         if plan.home == dc {
-            sessions.push(Session::new(dcs, number, plan)?)?;
+            sessions.push(new_session(dcs, number, plan)?)?;
         }
         number += 1;
     }
     Ok(sessions)
+}
+
+fn new_session(dcs: u32, number: u32, plan: &SessionPlan) -> Result<Session, NoMemory>
+    requires dcs { (1 ≤ dcs) × (dcs ≤ 8) }
+    requires commands { AreCommands plan.now.commands }
+    ensures { IfOk result (λ session. session ≡ new_session dcs number plan.now) }
+{
+    let commands = copy_commands(&plan.commands)?;
+    Ok(Session::new(commands.alloc(), number, dcs, commands))
+}
+
+fn copy_commands(commands: &Seq<Command>) -> Result<Seq<Command>, NoMemory>
+    ensures { IfOk result (λ copy. copy ≡ commands.now) }
+{
+    let mut copy = Seq::new(commands.alloc());
+    for command in commands.as_slice() {
+        copy.push(command.copy()?)?;
+    }
+    Ok(copy)
 }
 
 // The first queue takes the token.

@@ -1,9 +1,9 @@
-use crate::Session;
 use awareness_table::Aware;
 use batcher::Batcher;
 use causal_deps::{Place, Record};
 use cz_base::{DcId, Lid, Seq};
 use head_gossip::Vector;
+use hyksos::Session;
 use log_gc::Gc;
 use maintainer::Maintainer;
 use sender_receiver::Sender;

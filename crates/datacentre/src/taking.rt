@@ -1,5 +1,5 @@
 //! The turns of a whole datacentre: where a member is not there nothing happens, else it is lent its stages.
-ghost use Rattle.std.specs.Prelude.{◌≡◌, ◌<◌, ◌&&◌, [], false, nat_lt, length, slice_index_or, All, IfOk};
+ghost use Rattle.std.specs.Prelude.{◌≡◌, ◌<◌, ◌&&◌, [], false, nat_lt, length, slice_index_or, IfOk};
 ghost use Rattle.abstract_log.specs.declared.script.Outcome.TheVariants.{Absent};
 ghost use Rattle.record_codec.specs.declared.message.Message.{Message};
 ghost use Rattle.record_codec.specs.Wire.{SpellsMessage};
@@ -9,9 +9,9 @@ ghost use Rattle.stage_world.specs.Turns.{flush_turn, gossip_turn, pass_turn, pl
 ghost use Rattle.stage_world.specs.MoreTurns.{collect_turn, floor_turn, learn_turn, receive_turn};
 ghost use Rattle.datacentre.specs.Seen.{seen};
 ghost use Rattle.stage_world.specs.Schedules.{turn_of};
-ghost use Rattle.stage_turns.specs.Clients.{writes};
+ghost use Rattle.hyksos.specs.Sessions.{writes};
 ghost use Rattle.stage_turns.specs.Told.{IsToldBy};
-ghost use Rattle.datacentre.specs.Turning.{IsBuilt, IsBuiltCommand, IsPacketOf, IsTurned, MayTurn, send_told};
+ghost use Rattle.datacentre.specs.Turning.{IsBuilt, IsPacketOf, IsTurned, MayTurn, send_told};
 
 use crate::parts::Parts;
 use crate::{TurnDone, turns};
@@ -170,8 +170,7 @@ impl Parts {
 
     /// Session s, if it lives here, begins its next command or goes on with the one that is open.
     pub fn client(&mut self, s: u32) -> Result<TurnDone, NoMemory>
-        requires may { MayTurn self.old }
-        requires built { All (λ x. All IsBuiltCommand x.commands) self.old.sessions }
+        requires { MayTurn self.old }
         ensures { IfOk result (λ done. IsTurned self.old self.new done (client_turn self.old.dc (seen self.old) s)) }
     {
         let Some(at) = turns::place_of(&self.sessions, s) else {
@@ -187,6 +186,8 @@ impl Parts {
                 self.sessions.item_mut(at),
                 &mut self.maintainers,
                 &mut self.vectors,
+                &mut self.indexers,
+                &mut self.floor,
             )
         }
     }

@@ -76,6 +76,7 @@ impl Gc {
     pub fn floor(&self) -> Lid
         ensures value { result ≡ self.now.floor }
         ensures low { (session s : ℕ) → pin_of self.now session ≡ Some s → result ≤ s }
+        ensures size { length self.now.pins ≡ 64 }
     {
         self.floor
     }

@@ -27,3 +27,4 @@ pub mod TellingPass
 pub mod Telling
 pub mod TellingLoop
 pub mod Settled
+pub mod Bounds

@@ -9,12 +9,10 @@ use Rattle.std.proofs.lemmas.Bool.{cases_lt, false≢true, le-ltb, lt-ltb}
 use Rattle.std.proofs.lemmas.List.{append-nil, get_or-set_same, get_or_default, get_or_past, length-append, length-map, length-set, same_lists, set-get_or}
 use Rattle.std.proofs.lemmas.Grind.{same_number_lists}
 use Rattle.causal_deps.specs.declared.record.Record.{Record}
-use Rattle.causal_deps.specs.declared.record.Draft.{Draft}
 use Rattle.causal_deps.specs.declared.record.Item.{Item}
 use Rattle.causal_deps.specs.declared.record.Item.TheVariants.{External}
 use Rattle.causal_deps.specs.Counts.{IsSquare, IsWithin, entry_of, greater, greater_rows, raised_row, row_of}
 use Rattle.causal_deps.proofs.CountsLemmas.{entry_of-greater_rows, get_or-greater, get_or-greater_rows, length-greater, length-greater_rows}
-use Rattle.abstract_log.specs.declared.answer.Answer.TheVariants.{Read}
 use Rattle.flstore_rounds.specs.Epochs.{EpochList}
 use Rattle.flstore_rounds.specs.Heads.{Pair}
 use Rattle.maintainer.specs.Maintainers.{MaintainerState, learned, moved_in}
@@ -25,13 +23,11 @@ use Rattle.token_queue.specs.Items.{first_out, is_ready, record_from}
 use Rattle.token_queue.specs.Queues.{QueueState, TokenState, dealt, outbox_for, stamped_queue, stamped_token, tokenless, without_outbox}
 use Rattle.toid_filter.specs.Filters.{FilterState, filter_at, no_filter}
 use Rattle.stage_world.specs.Stages.{Datacentre, Session, batcher_at, maintainer_at, no_epochs, no_maintainer, no_queue, queue_at, slot_of}
-use Rattle.stage_world.specs.Turns.{all_acknowledged, begun, drained, drained_items, flushed, passed_on, placed_from, stamped, taken_by, token_moved}
-use Rattle.stage_world.specs.ClientTurns.{replied}
+use Rattle.stage_world.specs.Turns.{all_acknowledged, drained, drained_items, flushed, passed_on, placed_from, stamped, taken_by, token_moved}
 use Rattle.stage_world.specs.MoreTurns.{counts_after, learnable, learnt_more, learnt_row, received}
 use Rattle.stage_world.specs.Idle.{TellsApart, TellsChange, apart_from_epochs, maintainer_apart, pair_apart, queue_apart}
 use Rattle.stage_world.proofs.LearnTurn.{greater-self}
-use Rattle.stage_turns.specs.Changing.{TellsNews, has_some, marks_in, read_changes, write_changes}
-use Rattle.stage_turns.specs.Clients.{batchers_written, next_draft, position_of, session_read, session_written, shown_in, with_draft}
+use Rattle.stage_turns.specs.Changing.{TellsNews, has_some, marks_in}
 
 -- something in a list
 
@@ -228,51 +224,6 @@ learn_tells d z = elim (cases_lt z.learnt (learnable z)) [
         let row : learnt_row d z ≡ row_of z.table d = ap (λ k. counts_after z.maintainers (row_of z.table d) z.learnt k) nothing in
         let rows : raised_row z.table d (learnt_row d z) ≡ z.table = ap (raised_row z.table d) row ∙ ap (set z.table d) (greater-self (row_of z.table d)) ∙ set-get_or z.table d [] in
         sym (ap₂ (λ t k. record (apart_from_epochs z) { table = t; learnt = k }) rows upto)
-
--- client
-
-module _ (z : Datacentre) (i : ℕ) (x : Session) (within : i < length z.sessions) (is : get_or z.sessions i x ≡ x) where
-  unchanged : z.sessions ≡ set z.sessions i x
-  unchanged = sym (ap (set z.sessions i) (sym is) ∙ set-get_or z.sessions i x)
-
-  -- the session is another one
-  another : (y : Session) (bs : List (List Item)) → x ≢ y → apart_from_epochs z ≢ apart_from_epochs (record z { sessions = set z.sessions i y; batchers = bs })
-  another y bs apart alike = apart (sym is ∙ ap (λ (c : Datacentre). get_or c.sessions i x) alike ∙ get_or-set_same z.sessions i y x within)
-
-  begins : x.standing.begun ≡ false → x ≢ begun x
-  begins closed same = absurd (false≢true (sym closed ∙ ap (λ (s : Session). s.standing.begun) same))
-
-  abbrev written : Option Draft → Datacentre
-  written o = record z { sessions = set z.sessions i (option_map_or (λ draft. begun x) o x); batchers = option_map_or (with_draft x.number z.batchers) o z.batchers }
-
-  write_by : (b : Bool) (o : Option Draft) → x.standing.begun ≡ b → TellsChange (is_some (cond b None o)) z (written (cond b None o))
-  write_by true o opened = tells_same (apart_from_epochs z) (apart_from_epochs (written None)) (ap (λ xs. record (apart_from_epochs z) { sessions = xs }) unchanged)
-  write_by false None closed = tells_same (apart_from_epochs z) (apart_from_epochs (written None)) (ap (λ xs. record (apart_from_epochs z) { sessions = xs }) unchanged)
-  write_by false (Some draft) closed = tells_other (apart_from_epochs z) (apart_from_epochs (written (Some draft))) (another (begun x) (with_draft x.number z.batchers draft) (begins closed))
-
-  pub write_tells : TellsChange (write_changes x) z (record z { sessions = set z.sessions i (session_written x); batchers = batchers_written x z.batchers })
-  write_tells = write_by x.standing.begun (next_draft x) refl
-
-  module _ (ms : List (MaintainerState Record)) (top : ℕ) where
-    abbrev done : Session
-    done = replied (Read (shown_in ms (position_of x) top)) top x
-
-    abbrev read : Session → Datacentre
-    read y = record z { sessions = set z.sessions i y }
-
-    answers : x ≢ done
-    answers same = absurd (omega (arith, ap (λ (s : Session). s.standing.answered) same))
-
-    read_by : (b w : Bool) → x.standing.begun ≡ b → TellsChange (not (b && w)) z (read (cond w (begun x) done))
-    read_by true true opened =
-        let same : x ≡ begun x = ap (λ v. record x { standing = record x.standing { begun = v } }) opened in
-        tells_same (apart_from_epochs z) (apart_from_epochs (read (begun x))) (ap (λ xs. record (apart_from_epochs z) { sessions = xs }) (unchanged ∙ ap (set z.sessions i) same))
-    read_by true false opened = tells_other (apart_from_epochs z) (apart_from_epochs (read done)) (another done z.batchers answers)
-    read_by false true closed = tells_other (apart_from_epochs z) (apart_from_epochs (read (begun x))) (another (begun x) z.batchers (begins closed))
-    read_by false false closed = tells_other (apart_from_epochs z) (apart_from_epochs (read done)) (another done z.batchers answers)
-
-    pub read_tells : TellsChange (read_changes top x) z (record z { sessions = set z.sessions i (session_read ms top x) })
-    read_tells = read_by x.standing.begun (nat_lt top x.standing.floor) refl
 
 -- deliver
 pub receive_tells : (z : Datacentre) (r : ℕ) (m : Message) (c : Bool) → r % length z.batchers < length z.batchers → TellsNews c z.table m → TellsChange c z (received z r m)

@@ -1,76 +1,43 @@
 -- A session may take its turn at stages that stand for a log.
-use Rattle.std.proofs.Common.{◌≡◌, ◌≢◌, ℕ, zero, suc, ◌+◌, ◌-◌, ◌^◌, ◌%◌, ◌<◌, ◌≤◌, true, false, cond, eqb, List, [], ◌∷◌, ◌++◌, Option, Some, None, length, map, get_or, IsSome, refl, ap, sym, ◌∙◌, subst, inl, inr, arith}
-use Rattle.std.specs.List.{All, Contains, flat_map, slice_get}
-use Rattle.std.specs.Option.{ForSome, option_and_then, unwrap_or}
+use Rattle.std.proofs.Common.{◌≡◌, ◌⊎◌, ℕ, zero, suc, ◌+◌, ◌-◌, ◌^◌, ◌%◌, ◌<◌, ◌≤◌, Bool, true, false, cond, eqb, List, [], ◌∷◌, ◌++◌, Option, Some, None, length, map, get_or, IsSome, take, refl, ap, sym, ◌∙◌, subst, inl, inr, arith, sum}
+use Rattle.std.specs.List.{All, Contains, find, flat_map, slice_get}
+use Rattle.std.specs.Option.{option_map_or, unwrap_or}
 use Rattle.std.proofs.Math.Nat.{mod-lt}
-use Rattle.std.proofs.lemmas.Bool.{cases_lt}
-use Rattle.std.proofs.lemmas.List.{get_or-map, length-map}
-use Rattle.std.proofs.lemmas.List.Elements.{All-contains, All-get_or, All-weaker}
+use Rattle.std.proofs.lemmas.Bool.{cases_lt, cond_both, eq-eqb, ne_eqb}
+use Rattle.std.proofs.lemmas.Bool.Decides.{nat_tests}
+use Rattle.std.proofs.lemmas.List.Elements.{All-contains, All-get_or, Contains-append_cases, Contains-append_left, Contains-append_right}
 use Rattle.std.proofs.lemmas.List.Sums.{sum_by-cons}
-use Rattle.std.proofs.lemmas.Option.{slice_get-get_or, slice_get_within}
+use Rattle.std.proofs.lemmas.Option.{same_Some, slice_get-get_or}
 use Rattle.causal_deps.specs.declared.record.Record.{Record}
+use Rattle.causal_deps.specs.Logs.{record_at}
+use Rattle.abstract_log.specs.declared.answer.Found.{Found}
+use Rattle.abstract_log.specs.declared.answer.Found.TheVariants.{Absent as AbsentKey, At}
 use Rattle.abstract_log.specs.declared.command.Command.{Command}
-use Rattle.abstract_log.specs.declared.command.Command.TheVariants.{Append, Put, Get, Tx, Read as ReadCommand, Last}
 use Rattle.abstract_log.specs.declared.world.World.{World}
-use Rattle.abstract_log.specs.declared.world.Standing.{Standing}
 use Rattle.abstract_log.specs.Worlds.{log_of}
-use Rattle.abstract_log.specs.Commands.{no_plan}
+use Rattle.abstract_log.specs.Answers.{found_at, found_place, found_record, is_put_of, newest, passes, place_at}
 use Rattle.log_laws.specs.Lawful.{IsLawful}
-use Rattle.log_laws.specs.Records.{IsValid}
-use Rattle.log_laws.proofs.WriteCounts.{commands_are_counted}
-use Rattle.flstore_rounds.specs.declared.epochs.Epoch.{Epoch}
-use Rattle.flstore_rounds.specs.Epochs.{EpochList, IsSettled, later_than, owner}
-use Rattle.flstore_rounds.specs.Heads.{Pair, IsTruePair, blank, head, mark_at}
-use Rattle.flstore_rounds.proofs.EpochLemmas.{owner-prefix}
-use Rattle.flstore_rounds.proofs.HeadLemmas.{head_below, head_filled}
+use Rattle.flstore_rounds.specs.Heads.{Pair, IsTruePair, blank, head}
+use Rattle.flstore_rounds.proofs.HeadLemmas.{head_filled}
+use Rattle.hyksos.specs.Sessions.{SessionState, HasFound, keys_of, next_command, next_keys, writes}
+use Rattle.hyksos.specs.Shelves.{covered_for}
+use Rattle.log_gc.specs.Floors.{Floored, pin_of}
 use Rattle.maintainer.specs.declared.slot.Slot.{Slot}
-use Rattle.maintainer.specs.Maintainers.{IsEntryOf, IsOwn, MaintainerState, Owns, OwnsAll, plain, times_filled, times_in, value_at}
+use Rattle.maintainer.specs.Maintainers.{IsEntryOf, MaintainerState, plain, times, times_in, value_at}
 use Rattle.maintainer.proofs.CountLemmas.{value_at-log}
 use Rattle.maintainer.proofs.SlotLemmas.{value_at-filled}
-use Rattle.maintainer.proofs.OwnLemmas.{owns_filled}
-use Rattle.stage_world.specs.Stages.{Datacentre, IsFilledIn, Session, maintainer_at, no_epochs, no_maintainer, vector_at}
-use Rattle.stage_world.specs.StandsFor.{IsAsFar, StandsAt}
-use Rattle.stage_world.specs.MoreTurns.{record_kept}
-use Rattle.stage_world.proofs.FilledLemmas.{All-flat_map, no_record}
-use Rattle.stage_turns.specs.Clients.{IsKeptByOwner, MayRead, MayWrite, next_command, position_in, position_of, read_by, writes}
-
--- Several maintainers' entries together: what stands at a position, where one of them alone may have it.
-
-front_value : (p : ℕ) (xs ys : List (Slot Record)) → value_at p ys ≡ None → value_at p (xs ++ ys) ≡ value_at p xs
-front_value p [] ys none = none
-front_value p (x ∷ xs) ys none = ap (cond (eqb x.lid p) (Some x.value)) (front_value p xs ys none)
-
-back_value : (p : ℕ) (xs ys : List (Slot Record)) → times_in p xs ≡ 0 → value_at p (xs ++ ys) ≡ value_at p ys
-back_value p [] ys none = refl
-back_value p (x ∷ xs) ys none =
-    let sum : times_in p (x ∷ xs) ≡ cond (eqb x.lid p) 1 0 + times_in p xs = sum_by-cons (λ (e : Slot Record). cond (eqb e.lid p) 1 0) x xs in
-    elim (eqb x.lid p) as (λ b. times_in p (x ∷ xs) ≡ cond b 1 0 + times_in p xs → cond b (Some x.value) (value_at p (xs ++ ys)) ≡ value_at p ys) [
-      | true ↦ λ one. absurd (omega (arith, one, none))
-      | false ↦ λ zero. back_value p xs ys (omega (arith, zero, none))
-    ] sum
-
-none_kept : (p : ℕ) (ms : List (MaintainerState Record)) → ((j : ℕ) → j < length ms → times_in p (maintainer_at ms j).entries ≡ 0) → record_kept ms p ≡ None
-none_kept p [] none = refl
-none_kept p (m ∷ ms) none =
-    back_value p m.entries (flat_map (λ (x : MaintainerState Record). x.entries) ms) (none 0 (omega arith))
-    ∙ none_kept p ms (λ j within. none (suc j) (omega (arith, within)))
-
-pub one_keeps : (p : ℕ) (ms : List (MaintainerState Record)) (k : ℕ) → k < length ms → ((j : ℕ) → j < length ms → j ≢ k → times_in p (maintainer_at ms j).entries ≡ 0)
-    → value_at p (maintainer_at ms k).entries ≡ record_kept ms p
-one_keeps p [] k within none = absurd (omega (arith, within))
-one_keeps p (m ∷ ms) zero within none =
-    sym (front_value p m.entries (flat_map (λ (x : MaintainerState Record). x.entries) ms) (none_kept p ms (λ j there. none (suc j) (omega (arith, there)) (λ same. absurd (omega (arith, same))))))
-one_keeps p (m ∷ ms) (suc k) within none =
-    one_keeps p ms k (omega (arith, within)) (λ j there other. none (suc j) (omega (arith, there)) (λ same. other (omega (arith, same))))
-    ∙ sym (back_value p m.entries (flat_map (λ (x : MaintainerState Record). x.entries) ms) (none 0 (omega arith) (λ same. absurd (omega (arith, same)))))
-
--- a filled position is so at some maintainer
-somewhere : (p : ℕ) (ms : List (MaintainerState Record)) → IsFilledIn ms p → (i : ℕ) × (i < length ms) × (1 ≤ times_filled p (maintainer_at ms i))
-somewhere p [] some = absurd (omega arith)
-somewhere p (m ∷ ms) some = elim (cases_lt 0 (times_filled p m)) [
-  | inl here ↦ (0, omega arith, here)
-  | inr none ↦ let rest = somewhere p ms (omega (arith, some, sum_by-cons (times_filled p) m ms)) in (suc rest.0, omega (arith, rest.1), rest.2)
-]
+use Rattle.tag_indexer.specs.Indexers.{IndexerState}
+use Rattle.tag_indexer.specs.Rows.{home, newest_row}
+use Rattle.stage_world.specs.Stages.{Datacentre, IsFilledIn, filled, indexer_at, maintainer_at, no_epochs, no_indexer, vector_at, waiting_in}
+use Rattle.stage_world.specs.StandsFor.{IsAsFar, IsIndexedAt, IsPinned, StandsAt, gone_times, position_in}
+use Rattle.stage_world.specs.MoreTurns.{home_of, record_kept}
+use Rattle.stage_world.specs.ClientTurns.{looked_up}
+use Rattle.stage_world.proofs.FilledLemmas.{All-flat_map, filled_within, no_record, one_at_most, times_in-flat_map}
+use Rattle.stage_world.proofs.LogLemmas.{record_at_below}
+use Rattle.stage_world.proofs.LookUps.{looked_up_is}
+use Rattle.stage_turns.specs.Clients.{MayRead, MayWrite}
+use Rattle.stage_turns.specs.Shelves.{ShowsLog, gone_in, shelf_of}
+use Rattle.stage_turns.proofs.ShelfLemmas.{covered_is}
 
 -- room does not matter
 
@@ -81,118 +48,221 @@ plain_entries (m ∷ ms) = ap (λ es. m.entries ++ es) (plain_entries ms)
 pub record_kept_plain : (ms : List (MaintainerState Record)) (p : ℕ) → record_kept (map plain ms) p ≡ record_kept ms p
 record_kept_plain ms p = ap (value_at p) (plain_entries ms)
 
-pub kept_plain_owner : (hosts : ℕ) (e : EpochList) (ms : List (MaintainerState Record)) (p : ℕ) → IsKeptByOwner hosts e (map plain ms) p → IsKeptByOwner hosts e ms p
-kept_plain_owner hosts e ms p kept =
-    let k : ℕ = owner e p in
-    let inside : k < length ms = omega (arith, kept.member, length-map ms (λ (m : MaintainerState Record). plain m)) in
-    let same : maintainer_at (map plain ms) k ≡ plain (maintainer_at ms k) = get_or-map (λ (m : MaintainerState Record). plain m) ms k no_maintainer no_maintainer inside in
-    let own : IsOwn (plain (maintainer_at ms k)) p = subst (λ y. IsOwn y p) same kept.own in
-    record {
-      member = inside;
-      own = record { first = own.first; owner = own.owner };
-      same = ap (λ (y : MaintainerState Record). value_at p y.entries) (sym same) ∙ kept.same ∙ record_kept_plain ms p;
-      host = subst (λ o. ForSome o (λ r. r.host < hosts)) (record_kept_plain ms p) kept.host;
-    }
+pub gone_plain : (ms : List (MaintainerState Record)) → gone_in (map plain ms) ≡ gone_in ms
+gone_plain [] = refl
+gone_plain (m ∷ ms) = ap (λ ps. m.gone ++ ps) (gone_plain ms)
 
-same_some : (r s : Record) → Some r ≡ Some s → r ≡ s
-same_some r s same = cc
+pub shows_lent : (v : Pair) (lent : List (MaintainerState Record)) (is : List IndexerState) (g : Floored) (log : List Record) → ShowsLog v (map plain lent) is g log → ShowsLog v lent is g log
+shows_lent v lent is g log h = record {
+  within = h.within;
+  indexers = h.indexers;
+  kept = λ p r some. h.kept p r (record_kept_plain lent p ∙ some);
+  filled = λ p first high. elim (h.filled p first high) [
+    | inl gone ↦ inl (subst (λ ps. Contains ps p) (gone_plain lent) gone)
+    | inr some ↦ inr (subst (λ o. IsSome o) (record_kept_plain lent p) some)
+  ];
+  apart = λ p gone. sym (record_kept_plain lent p) ∙ h.apart p (subst (λ ps. Contains ps p) (sym (gone_plain lent)) gone);
+  small = λ p gone. h.small p (subst (λ ps. Contains ps p) (sym (gone_plain lent)) gone);
+  newest = λ key s p low covered is_newest. subst (λ o. IsSome o) (record_kept_plain lent p) (h.newest key s p low covered is_newest);
+  pins = h.pins;
+}
+
+-- positions that are gone
+
+counted : (p : ℕ) (ps : List ℕ) → 1 ≤ times p ps → Contains ps p
+counted p [] some = absurd (omega arith)
+counted p (q ∷ qs) some = elim (cases_lt 0 (cond (eqb q p) 1 0)) [
+  | inl here ↦ (0, omega arith, is_it q here)
+  | inr other ↦ let has = counted p qs (omega (arith, some, other, sum_by-cons (λ (x : ℕ). cond (eqb x p) 1 0) q qs)) in (suc has.0, omega (arith, has.1), has.2)
+]
+  where
+    is_it : (n : ℕ) → 0 < cond (eqb n p) 1 0 → n ≡ p
+    is_it n some = grind (arith, nat_tests, some)
+
+listed : (p : ℕ) (ps : List ℕ) → Contains ps p → 1 ≤ times p ps
+listed p [] has = absurd (omega (arith, has.1))
+listed p (q ∷ qs) has = at has.0 has.1 has.2 (λ later. listed p qs later)
+  where
+    at : (k : ℕ) → k < length (q ∷ qs) → get_or (q ∷ qs) k p ≡ p → (Contains qs p → 1 ≤ times p qs) → 1 ≤ times p (q ∷ qs)
+    at zero within is later = omega (arith, sum_by-cons (λ (x : ℕ). cond (eqb x p) 1 0) q qs, ap (λ b. cond {A = ℕ} b 1 0) (eq-eqb q p is))
+    at (suc k) within is later = omega (arith, sum_by-cons (λ (x : ℕ). cond (eqb x p) 1 0) q qs, later (k, omega (arith, within), is))
+
+gone_somewhere : (p : ℕ) (ms : List (MaintainerState Record)) → 1 ≤ gone_times p ms → Contains (gone_in ms) p
+gone_somewhere p [] some = absurd (omega arith)
+gone_somewhere p (m ∷ ms) some = elim (cases_lt 0 (times p m.gone)) [
+  | inl here ↦ Contains-append_left m.gone (gone_in ms) p (counted p m.gone here)
+  | inr none ↦ Contains-append_right m.gone (gone_in ms) p (gone_somewhere p ms (omega (arith, some, none, sum_by-cons (λ (x : MaintainerState Record). times p x.gone) m ms)))
+]
+
+gone_counts : (p : ℕ) (ms : List (MaintainerState Record)) → Contains (gone_in ms) p → 1 ≤ gone_times p ms
+gone_counts p [] has = absurd (omega (arith, has.1))
+gone_counts p (m ∷ ms) has = elim (Contains-append_cases m.gone (gone_in ms) p has) [
+  | inl here ↦ omega (arith, listed p m.gone here, sum_by-cons (λ (x : MaintainerState Record). times p x.gone) m ms)
+  | inr later ↦ omega (arith, gone_counts p ms later, sum_by-cons (λ (x : MaintainerState Record). times p x.gone) m ms)
+]
+
+-- indexers by number
+
+find_at : (o k : ℕ) (xs : List IndexerState) → ((i : ℕ) → i < length xs → (indexer_at xs i).number ≡ i + o) → k < length xs → find (λ i. eqb i.number (k + o)) xs ≡ Some (indexer_at xs k)
+find_at o k [] numbers within = absurd (omega (arith, within))
+find_at o zero (x ∷ xs) numbers within = ap (λ b. cond b (Some x) (find (λ (i : IndexerState). eqb i.number (0 + o)) xs)) (eq-eqb x.number (0 + o) (numbers 0 within))
+find_at o (suc k) (x ∷ xs) numbers within =
+    let apart : eqb x.number (suc k + o) ≡ false = ne_eqb x.number (suc k + o) (λ same. absurd (omega (arith, same, numbers 0 (omega arith)))) in
+    let along : suc k + o ≡ k + suc o = omega arith in
+    ap (λ b. cond b (Some x) (find (λ (i : IndexerState). eqb i.number (suc k + o)) xs)) apart ∙ ap (λ n. find (λ (i : IndexerState). eqb i.number n) xs) along
+    ∙ find_at (suc o) k xs (λ i inside. numbers (suc i) (omega (arith, inside)) ∙ omega arith) (omega (arith, within))
+
+-- the newest value's record stands there
+newest_record : (log : List Record) (key : List ℕ) (s p : ℕ) → newest log key s ≡ Some p → (r : Record) × (record_at log p ≡ Some r)
+newest_record log key zero p is = absurd (cc)
+newest_record log key (suc s) p is = by_record (slice_get log s) refl (newest_record log key s p) is
+  where
+    by_test : (r : Record) (b : Bool) → slice_get log s ≡ Some r → (newest log key s ≡ Some p → (q : Record) × (record_at log p ≡ Some q)) → cond b (Some (suc s)) (newest log key s) ≡ Some p → (q : Record) × (record_at log p ≡ Some q)
+    by_test r true at before same = (r, subst (λ n. record_at log n ≡ Some r) (same_Some (suc s) p same) at)
+    by_test r false at before later = before later
+
+    by_record : (o : Option Record) → slice_get log s ≡ o → (newest log key s ≡ Some p → (q : Record) × (record_at log p ≡ Some q)) → cond (passes (is_put_of key) o) (Some (suc s)) (newest log key s) ≡ Some p → (q : Record) × (record_at log p ≡ Some q)
+    by_record None at before later = before later
+    by_record (Some r) at before later = by_test r (is_put_of key r) at before later
+
+-- what is found is kept at its position
+kept_found : (ms : List (MaintainerState Record)) (p q : ℕ) (r : Record) → cond (eqb q 0) AbsentKey (found_record q (record_kept ms q)) ≡ found_record p (Some r) → IsSome (record_kept ms p)
+kept_found ms p q r = by_test (eqb q 0)
+  where
+    by_record : (o : Option Record) → record_kept ms q ≡ o → found_record q o ≡ found_record p (Some r) → IsSome (record_kept ms p)
+    by_record None is bad = absurd (cc)
+    by_record (Some u) is same = let at : place_at q u ≡ place_at p r = cc in subst (λ o. IsSome o) (sym (ap (record_kept ms) (sym (ap (λ pl. pl.lid) at)) ∙ is)) refl
+
+    by_test : (b : Bool) → cond b AbsentKey (found_record q (record_kept ms q)) ≡ found_record p (Some r) → IsSome (record_kept ms p)
+    by_test true bad = absurd (cc)
+    by_test false same = by_record (record_kept ms q) refl same
 
 module _ (w : World) (d : ℕ) (z : Datacentre) (lawful : IsLawful w) (h : StandsAt w d z) where
-  abbrev t : EpochList
-  t = z.token.epochs
+  abbrev log : List Record
+  log = log_of w d
 
   abbrev ms : List (MaintainerState Record)
   ms = z.maintainers
 
-  -- whoever has a position filled is its owner
-  pub owner_is : (p j : ℕ) → j < length ms → 1 ≤ times_filled p (maintainer_at ms j) → (owner t p ≡ j) × Owns t (maintainer_at ms j) p
-  owner_is p j within some =
-      let all : OwnsAll t (maintainer_at ms j) = All-get_or (OwnsAll t) ms j no_maintainer within h.owned.maintainers in
-      let owns : Owns t (maintainer_at ms j) p = owns_filled t (maintainer_at ms j) p all some in
-      (sym (owner-prefix (maintainer_at ms j).epochs t p all.known owns.settled) ∙ owns.own ∙ h.owned.numbers j within, owns)
+  -- what is filled up to a head is no further than the log
+  pair_within : (v : Pair) → IsTruePair z.token.epochs (IsFilledIn ms) v → head v ≤ length log
+  pair_within v truth = elim (cases_lt 0 (head v)) [
+    | inl some ↦ filled_within w d z (head v) h (head_filled z.token.epochs (IsFilledIn ms) v (head v) truth some (omega arith))
+    | inr none ↦ omega (arith, none)
+  ]
 
-  -- what stands at a position is of the log
-  host_kept : (p : ℕ) → ForSome (record_kept ms p) (λ r. r.host < w.workload.dcs)
-  host_kept p r is =
-      let entries : All (IsEntryOf (log_of w d)) (flat_map (λ (m : MaintainerState Record). m.entries) ms) = All-flat_map (IsEntryOf (log_of w d)) ms h.placed.entries in
+  -- what stands at a position is the log's
+  kept_is : (p : ℕ) (r : Record) → record_kept ms p ≡ Some r → record_at log p ≡ Some r
+  kept_is p r is =
+      let entries : All (IsEntryOf log) (flat_map (λ (m : MaintainerState Record). m.entries) ms) = All-flat_map (IsEntryOf log) ms h.placed.entries in
       let count : 1 ≤ times_in p (flat_map (λ (m : MaintainerState Record). m.entries) ms) = value_at-filled p r (flat_map (λ (m : MaintainerState Record). m.entries) ms) is in
-      let stands : slice_get (log_of w d) (p - 1) ≡ Some r = sym (value_at-log (log_of w d) p (flat_map (λ (m : MaintainerState Record). m.entries) ms) count entries) ∙ is in
-      let inside : p - 1 < length (log_of w d) = slice_get_within (log_of w d) (p - 1) r stands in
-      let at : get_or (log_of w d) (p - 1) no_record ≡ r = same_some (get_or (log_of w d) (p - 1) no_record) r (sym (slice_get-get_or (log_of w d) (p - 1) no_record inside) ∙ stands) in
-      subst (λ (q : Record). q.host < w.workload.dcs) at (All-get_or (IsValid w.workload.dcs) (log_of w d) (p - 1) no_record inside (lawful.valid d)).host
+      let once : waiting_in p z.queues + filled p ms ≡ position_in log p = h.placed.once p in
+      let some : 1 ≤ position_in log p = omega (arith, count, times_in-flat_map p ms, once) in
+      let first : 1 ≤ p = grind (arith, nat_tests, some) in
+      record_at_below log p first ∙ sym (value_at-log log p (flat_map (λ (m : MaintainerState Record). m.entries) ms) count entries) ∙ is
 
-  -- a position up to the head of a vector is kept by its owner
-  pub kept_below : (i p : ℕ) → i < length z.vectors → 1 ≤ p → p ≤ head (vector_at z.vectors i) → IsKeptByOwner w.workload.dcs (vector_at z.vectors i).epochs ms p
-  kept_below i p there first high =
-      let v : Pair = vector_at z.vectors i in
-      let truth : IsTruePair t (IsFilledIn ms) v = All-get_or (IsTruePair t (IsFilledIn ms)) z.vectors i (blank no_epochs) there h.heads in
-      let at = somewhere p ms (head_filled t (IsFilledIn ms) v p truth first high) in
-      let k : ℕ = owner v.epochs p in
-      let below : p < mark_at v k = head_below v p first high in
-      let settled : IsSettled t v.epochs p = All-weaker (λ (n : Epoch). mark_at v k ≤ n.start) (λ (n : Epoch). p < n.start) (λ n later. omega (arith, below, later)) (later_than v.epochs t) (truth.settled k) in
-      let dealt : k ≡ owner t p = owner-prefix v.epochs t p truth.known settled in
-      let owns = owner_is p at.0 at.1 at.2 in
-      let same : at.0 ≡ k = sym owns.0 ∙ sym dealt in
-      let inside : k < length ms = subst (λ j. j < length ms) same at.1 in
-      let own : IsOwn (maintainer_at ms at.0) p = record { first = first; owner = owns.1.own } in
+  -- a filled position is gone, or its record stands there
+  gone_or_kept : (p : ℕ) → 1 ≤ p → IsFilledIn ms p → Contains (gone_in ms) p ⊎ IsSome (record_kept ms p)
+  gone_or_kept p first some = elim (cases_lt 0 (gone_times p ms)) [
+    | inl gone ↦ inl (gone_somewhere p ms gone)
+    | inr none ↦
+        let count : 1 ≤ times_in p (flat_map (λ (m : MaintainerState Record). m.entries) ms) = omega (arith, some, none, times_in-flat_map p ms) in
+        let within : p ≤ length log = filled_within w d z p h some in
+        let is : record_kept ms p ≡ slice_get log (p - 1) = value_at-log log p (flat_map (λ (m : MaintainerState Record). m.entries) ms) count (All-flat_map (IsEntryOf log) ms h.placed.entries) in
+        inr (subst (λ o. IsSome o) (sym (is ∙ slice_get-get_or log (p - 1) no_record (omega (arith, first, within)))) refl)
+  ]
+
+  gone_alone : (p : ℕ) → Contains (gone_in ms) p → record_kept ms p ≡ None
+  gone_alone p gone = by_record (record_kept ms p) refl
+    where
+      by_record : (o : Option Record) → record_kept ms p ≡ o → o ≡ None
+      by_record None is = refl
+      by_record (Some r) is =
+          let count : 1 ≤ times_in p (flat_map (λ (m : MaintainerState Record). m.entries) ms) = value_at-filled p r (flat_map (λ (m : MaintainerState Record). m.entries) ms) is in
+          absurd (omega (arith, count, gone_counts p ms gone, times_in-flat_map p ms, one_at_most log p (waiting_in p z.queues) (filled p ms) (h.placed.once p)))
+
+  gone_small : (p : ℕ) → Contains (gone_in ms) p → p < 2 ^ 48
+  gone_small p gone = omega (arith, filled_within w d z p h (omega (arith, gone_counts p ms gone, times_in-flat_map p ms)), lawful.few d)
+
+  -- the indexer of a key
+  pub home_at : (key : List ℕ) → 1 ≤ length z.indexers → home_of z key ≡ indexer_at z.indexers (home key (length z.indexers))
+  home_at key some =
+      let k : ℕ = home key (length z.indexers) in
+      let same : k + 0 ≡ k = omega arith in
+      ap (λ o. unwrap_or o no_indexer) (ap (λ n. find (λ (i : IndexerState). eqb i.number n) z.indexers) (sym same) ∙ find_at 0 k z.indexers (λ i within. h.numbered i within ∙ omega arith) (mod-lt (sum key) some))
+
+  newest_kept : (v : Pair) (g : Floored) (key : List ℕ) (s p : ℕ) → g.floor ≡ z.floor → g.floor ≤ s → s ≤ covered_for (shelf_of v ms z.indexers g) key → newest log key s ≡ Some p → IsSome (record_kept ms p)
+  newest_kept v g key s p floor low covered is =
+      let some : 1 ≤ length z.indexers = h.members.ranges.indexers.0 in
+      let reached : s ≤ head (home_of z key).pair = omega (arith, covered, covered_is v ms z.indexers g some key, ap (λ (i : IndexerState). head i.pair) (home_at key some)) in
+      let within : s ≤ length log = omega (arith, reached, ap (λ (i : IndexerState). head i.pair) (home_at key some), home_within key some) in
+      let stands = newest_record log key s p is in
+      kept_found ms p (newest_row (home_of z key).rows key s) stands.0
+      (looked_up_is w d z key s h (omega (arith, low, floor)) within reached ∙ ap (found_place log) is ∙ ap (found_record p) stands.1)
+    where
+      home_within : (key : List ℕ) → 1 ≤ length z.indexers → head (indexer_at z.indexers (home key (length z.indexers))).pair ≤ length log
+      home_within key some = pair_within (indexer_at z.indexers (home key (length z.indexers))).pair
+          (All-get_or (λ (i : IndexerState). IsTruePair z.token.epochs (IsFilledIn ms) i.pair × IsIndexedAt log (length z.indexers) i) z.indexers (home key (length z.indexers)) no_indexer (mod-lt (sum key) some) h.indexers).0
+
+  -- what the stages make shows the log
+  pub shows_log : (k : ℕ) (g : Floored) → k < length z.vectors → g.floor ≡ z.floor → ((n s : ℕ) → pin_of g n ≡ Some s → g.floor ≤ s) → ShowsLog (vector_at z.vectors k) ms z.indexers g log
+  shows_log k g within floor pins =
+      let truth : IsTruePair z.token.epochs (IsFilledIn ms) (vector_at z.vectors k) = All-get_or (IsTruePair z.token.epochs (IsFilledIn ms)) z.vectors k (blank no_epochs) within h.heads in
       record {
-        member = inside;
-        own = subst (λ j. IsOwn (maintainer_at ms j) p) same own;
-        same = one_keeps p ms k inside (λ j within other. elim (cases_lt 0 (times_in p (maintainer_at ms j).entries)) [
-          | inl some ↦ absurd (other (sym (owner_is p j within (omega (arith, some))).0 ∙ sym dealt))
-          | inr none ↦ omega (arith, none)
-        ]);
-        host = host_kept p;
+        within = pair_within (vector_at z.vectors k) truth;
+        indexers = λ i inside.
+            let its = All-get_or (λ (x : IndexerState). IsTruePair z.token.epochs (IsFilledIn ms) x.pair × IsIndexedAt log (length z.indexers) x) z.indexers i no_indexer inside h.indexers in
+            record { number = h.numbered i inside; members = its.1.members; indexed = its.1.has; within = pair_within (indexer_at z.indexers i).pair its.0 };
+        kept = kept_is;
+        filled = λ p first high. gone_or_kept p first (head_filled z.token.epochs (IsFilledIn ms) (vector_at z.vectors k) p truth first high);
+        apart = gone_alone;
+        small = gone_small;
+        newest = λ key s p low covered is. newest_kept (vector_at z.vectors k) g key s p floor low covered is;
+        pins = pins;
       }
 
-  module _ (x : Session) (has : Contains z.sessions x) where
-    far : IsAsFar w.workload w.sessions (log_of w d) d z.floor x
-    far = All-contains (IsAsFar w.workload w.sessions (log_of w d) d z.floor) z.sessions x h.sessions has
-
-    few_commands : length x.commands < 2 ^ 32
-    few_commands = omega (arith, ap (λ (cs : List Command). length cs) far.commands, commands_are_counted w.workload.sessions x.number no_plan far.home.there, lawful.limits.commands)
-
-    past_size : length x.standing.past ≡ w.workload.dcs
-    past_size = ap (λ (st : Standing). length st.past) far.standing ∙ lawful.shape.pasts x.number (omega (arith, far.home.there, lawful.shape.sessions))
+  module _ (x : SessionState) (has : Contains z.sessions x) where
+    far : IsAsFar w.workload w.sessions log d z.floor x
+    far = All-contains (IsAsFar w.workload w.sessions log d z.floor) z.sessions x h.sessions has
 
     -- a session whose turn is that of a write may take it
     pub may_write : writes x ≡ true → MayWrite x.number x z.batchers
-    may_write is = record { number = refl; writes = is; few = few_commands; batcher = h.members.ranges.batchers.0 }
+    may_write is = record { number = refl; writes = is; batcher = h.members.ranges.batchers.0 }
 
-    reads_first : (c : Command) (p : ℕ) → next_command x ≡ Some c → position_in c ≡ Some p → 1 ≤ p
-    reads_first (Append tags body) p is reads = absurd (cc)
-    reads_first (Put key body) p is reads = absurd (cc)
-    reads_first (Get key) p is reads = absurd (cc)
-    reads_first (Tx keys) p is reads = absurd (cc)
-    reads_first (ReadCommand q) p is reads =
-        let same : q ≡ p = cc in
-        subst (λ n. 1 ≤ n) same (lawful.reads x.number x.standing.answered q (ap (λ cs. slice_get cs x.standing.answered) (sym far.commands) ∙ is))
-    reads_first (Last tag n) p is reads = absurd (cc)
-
-    first_position : IsSome (read_by x) → 1 ≤ position_of x
-    first_position some = by_command (next_command x) refl some
+    -- what it has found is the log's
+    pub has_found : HasFound log x
+    has_found = record {
+      pinned = λ s pin.
+          let at = far.pinned s pin in
+          at.same ∙ ap (λ ks. map (found_at log s) (take (length x.found) ks)) (sym (keys at.command at.is));
+      fresh = far.fresh;
+    }
       where
-        by_position : (c : Command) (o : Option ℕ) → next_command x ≡ Some c → position_in c ≡ o → IsSome o → 1 ≤ unwrap_or o 0
-        by_position c None is reads some = absurd (cc)
-        by_position c (Some p) is reads some = reads_first c p is reads
+        keys : (c : Command) → next_command x ≡ Some c → next_keys x ≡ keys_of c
+        keys c is = ap (λ o. option_map_or keys_of o []) is
 
-        by_command : (o : Option Command) → next_command x ≡ o → IsSome (option_and_then position_in o) → 1 ≤ unwrap_or (option_and_then position_in o) 0
-        by_command None is some = absurd (cc)
-        by_command (Some c) is some = by_position c (position_in c) is refl some
+    -- its number is one of the 64
+    small_number : x.number < 64
+    small_number = omega (arith, far.home.there, lawful.limits.sessions)
 
-    -- a session whose turn is that of a read may take it at lent maintainers, whatever room they have
-    pub may_read : (lent : List (MaintainerState Record)) → IsSome (read_by x) → map plain lent ≡ ms → MayRead x.number z.first x lent z.vectors
-    may_read lent reads same = record {
+    -- another session may take its turn at lent maintainers, whatever room they have
+    pub may_read : (lent : List (MaintainerState Record)) (g : Floored) → writes x ≡ false → map plain lent ≡ ms → g.floor ≡ z.floor → pin_of g x.number ≡ x.pin → ((n s : ℕ) → pin_of g n ≡ Some s → g.floor ≤ s)
+        → MayRead x.number z.first x lent z.vectors z.indexers g
+    may_read lent g reads same floor pin pins = record {
       number = refl;
+      small = small_number;
       reads = reads;
-      few = few_commands;
-      position = first_position reads;
       some = h.served.0;
       vector = served;
-      kept = λ p first high. kept_plain_owner (length x.standing.past) (vector_at z.vectors (x.number % z.first)).epochs lent p
-          (subst (λ ns. IsKeptByOwner (length x.standing.past) (vector_at z.vectors (x.number % z.first)).epochs ns p) (sym same)
-          (subst (λ n. IsKeptByOwner n (vector_at z.vectors (x.number % z.first)).epochs ms p) (sym past_size) (kept_below (x.number % z.first) p served first high)));
+      indexers = h.members.ranges.indexers;
+      pin = pin;
+      log = log;
+      shows = shows_at lent g same floor pins;
+      found = has_found;
     }
       where
         served : x.number % z.first < length z.vectors
         served = omega (arith, mod-lt x.number h.served.0, h.served.1)
+
+        shows_at : (ns : List (MaintainerState Record)) (f : Floored) → map plain ns ≡ ms → f.floor ≡ z.floor → ((n s : ℕ) → pin_of f n ≡ Some s → f.floor ≤ s) → ShowsLog (vector_at z.vectors (x.number % z.first)) ns z.indexers f log
+        shows_at ns f alike low all = shows_lent (vector_at z.vectors (x.number % z.first)) ns z.indexers f log (subst (λ us. ShowsLog (vector_at z.vectors (x.number % z.first)) us z.indexers f log) (sym alike) (shows_log (x.number % z.first) f served low all))

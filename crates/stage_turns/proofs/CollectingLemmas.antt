@@ -65,7 +65,7 @@ put_replaced is floor lid (key ∷ other ∷ tags) one = absurd (omega (arith, o
 
 kind_replaced : (is : List IndexerState) (floor lid : ℕ) (kind : Kind) (tags : List (List ℕ)) → (is_put kind ≡ true → length tags ≡ 1)
     → unless_put kind (replaced floor lid (newest_for is kind tags floor))
-        ≡ (not (is_put kind) || list_all (λ key. leb floor (head (home_among is key).pair) && ltb lid (newest_row (home_among is key).rows key floor)) tags)
+    ≡ (not (is_put kind) || list_all (λ key. leb floor (head (home_among is key).pair) && ltb lid (newest_row (home_among is key).rows key floor)) tags)
 kind_replaced is floor lid Append tags one = refl
 kind_replaced is floor lid Put tags one = put_replaced is floor lid tags (one refl)
 
@@ -94,8 +94,7 @@ home_is is tag at x homes here within stands =
     let there : x ≡ get_or is at no_indexer = stands ∙ get_or_default is at x no_indexer within in
     let passes : eqb (get_or is at no_indexer).number (home tag (length is)) ≡ true = eq-eqb (get_or is at no_indexer).number (home tag (length is)) ((homes.each at within).0 ∙ here) in
     let found : find (λ (i : IndexerState). eqb i.number (home tag (length is))) is ≡ Some (get_or is at no_indexer) = first_found (λ (i : IndexerState). eqb i.number (home tag (length is))) is at no_indexer within passes
-        (λ i low. ne_eqb (get_or is i no_indexer).number (home tag (length is)) (λ same. absurd (omega (arith, low, (homes.each i (omega arith)).0, same, here)))) in
-    (
+    (λ i low. ne_eqb (get_or is i no_indexer).number (home tag (length is)) (λ same. absurd (omega (arith, low, (homes.each i (omega arith)).0, same, here)))) in (
       there ∙ sym (ap (λ o. unwrap_or o no_indexer) found),
       ap (λ (i : IndexerState). home tag i.indexers) there ∙ ap (home tag) (homes.each at within).1 ∙ sym here ∙ sym (homes.each at within).0 ∙ ap (λ (i : IndexerState). i.number) (sym there),
     )
@@ -115,8 +114,8 @@ still_there m now zs ps i read inside rising there at =
     let within : i < length ps = omega (arith, ap length read) in
     let p : ℕ = get_or ps i 0 in
     let others : All (λ q. q ≡ p → ⊥) (take i ps) = λ k d short same.
-        let early : k < i = omega (arith, length-take i ps) in
-        absurd (omega (arith, same, get_or-take i ps k d early, rising k i d early within, get_or_default ps i d 0 within)) in
+    let early : k < i = omega (arith, length-take i ps) in
+    absurd (omega (arith, same, get_or-take i ps k d early, rising k i d early within, get_or_default ps i d 0 within)) in
     let same : value_at p now.entries ≡ value_at p m.entries = ap (λ (n : MaintainerState Record). value_at p n.entries) at ∙ value_stays m p (take i ps) others in
     subst (λ qs. IsSome (value_at (get_or qs i 0) now.entries)) (sym read) (subst IsSome (sym same) (there i 0 within))
 

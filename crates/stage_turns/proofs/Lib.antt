@@ -11,7 +11,10 @@ pub mod FlushMay
 pub mod ShelfLemmas
 pub mod ClientMay
 pub mod ClientIs
+pub mod SessionChanges
 pub mod PlacingLemmas
+pub mod PostingLemmas
+pub mod PostingTurns
 pub mod LearningLemmas
 pub mod TellingLemmas
 pub mod StockLemmas
@@ -19,3 +22,4 @@ pub mod NewsLemmas
 pub mod ToldLemmas
 pub mod CollectingLemmas
 pub mod CollectTurns
+pub mod SessionIs

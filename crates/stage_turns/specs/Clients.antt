@@ -13,8 +13,9 @@ use Rattle.flstore_rounds.specs.Heads.{Pair, head}
 use Rattle.hyksos.specs.declared.next.Next.{Next}
 use Rattle.hyksos.specs.declared.next.Next.TheVariants.{Submitted as SubmittedNext, Replied as RepliedNext, Key as KeyNext, Waiting as WaitingNext, Unacknowledged as UnacknowledgedNext, Below as BelowNext, Behind as BehindNext, Finished as FinishedNext}
 use Rattle.hyksos.specs.declared.next.Turned.{Turned}
-use Rattle.hyksos.specs.Sessions.{SessionState, HasFound, draft_submitted, next_index, writes}
-use Rattle.hyksos.specs.Shelves.{ShelfState, IsShelf}
+pub use Rattle.hyksos.specs.Sessions.{is_unanswered, next_command, next_index, writes}
+use Rattle.hyksos.specs.Sessions.{SessionState, HasFound, draft_submitted}
+use Rattle.hyksos.specs.Shelves.{ShelfState}
 use Rattle.hyksos.specs.Turns.{turn_of, turned}
 use Rattle.log_gc.specs.Floors.{Floored, pin_of}
 use Rattle.maintainer.specs.Maintainers.{MaintainerState}
@@ -106,7 +107,7 @@ pub record MayRead (s first : ℕ) (x : SessionState) (ms : List (MaintainerStat
   pub reads : writes x ≡ false
   pub some : 1 ≤ first
   pub vector : s % first < length vs
-  pub sized : IsShelf (shelf_for s first ms vs is g)
+  pub indexers : (1 ≤ length is) × (length is ≤ 16)
   pub pin : pin_of g s ≡ x.pin
   pub log : List Record
   pub shows : ShowsLog (vector_at vs (s % first)) ms is g log

@@ -5,6 +5,7 @@ pub mod Shelves
 pub mod Clients
 pub mod Changing
 pub mod Placing
+pub mod Posting
 pub mod Telling
 pub mod Learning
 pub mod Told

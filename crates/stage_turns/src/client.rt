@@ -79,6 +79,8 @@ pub fn client_read(
         → IfOk result (λ done. IsSessionTurn dc log (shelf_for s first_maintainers maintainers.old vectors.old indexers.old floor.old) session.old done session.new floor.new) }
 {
     let was_pinned = session.is_pinned();
+    // It tells that there is a pin for each of 64 sessions.
+    let _low = floor.floor();
     let mut shelf = StageShelf {
         vector: &vectors.as_slice()[(s % first_maintainers) as usize],
         maintainers,

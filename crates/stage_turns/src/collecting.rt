@@ -114,8 +114,8 @@ fn places_to_go(
     Ok(places)
 }
 
-// Where the entry's record stands.
-fn place_of(slot: &Slot<Record>) -> Place
+/// Where the entry's record stands.
+pub(crate) fn place_of(slot: &Slot<Record>) -> Place
     ensures { result ≡ place_of_entry slot.now }
 {
     Place {

@@ -103,9 +103,15 @@ impl Indexer {
     /// Up to where maintainer m has posted: below this position.
     pub fn mark(&self, m: u32) -> Lid
         requires { m < 16 }
-        ensures { result ≡ mark_at self.now.pair m }
+        ensures value { result ≡ mark_at self.now.pair m }
+        ensures some { 1 ≤ result }
     {
         self.marks[m as usize]
+    }
+
+    /// The allocator of the rows, for what is made for them.
+    pub fn alloc(&self) -> Global {
+        *self.rows.allocator()
     }
 
     /// The greatest position up to which each is posted.
@@ -150,7 +156,7 @@ impl Indexer {
             return Err(LastFault::Behind { covered });
         }
         match last_tagged(
-            *self.rows.allocator(),
+            self.alloc(),
             &self.rows,
             &self.tagged,
             tag,

@@ -1,6 +1,10 @@
 use Rattle.std.proofs.Common.{refl}
+use Rattle.datacentre.proofs.NewLemmas.{all_commands}
 use Rattle.datacentre.proofs.OpenedLemmas.{new_seen, new_whole}
 use Rattle.datacentre.proofs.datacentre.new_parts.Goals as goal
+
+pub new_sessions-requires-clause-commands : goal.new_sessions-requires-clause-commands
+new_sessions-requires-clause-commands c = all_commands c.args.workload.now c.requires.limits
 
 pub returns-clause-stages : goal.returns-clause-stages
 returns-clause-stages c =

@@ -3,8 +3,8 @@ use Rattle.datacentre.proofs.WholeTurns.{if_five}
 use Rattle.datacentre.proofs.FloorTurns.{collect_is, collect_may}
 use Rattle.datacentre.proofs.parts.Parts.collect.Goals as goal
 
-pub collect-requires-clause-may : goal.collect-requires-clause-may
-collect-requires-clause-may c = collect_may c.args.self.now c.args.m _ c.requires (search rules) c.item_mut.ensures.value
+pub collect-requires : goal.collect-requires
+collect-requires c = collect_may c.args.self.now c.args.m _ c.requires (search rules) c.item_mut.ensures.value
 
 pub returns : goal.returns
 returns c =
