@@ -1,5 +1,6 @@
 -- Loops of settling that are given up only after very many passes end by themselves.
-use Rattle.std.proofs.Common.{◌≡◌, ℕ, ◌<◌, ◌≤◌, Bool, true, false, List, ap, sym, subst, ◌∙◌, inl, inr, arith}
+use Rattle.std.proofs.Common.{ℕ, ◌<◌, ◌≤◌, Bool, List, ap, sym, subst, ◌∙◌, inl, inr, arith}
+use Rattle.std.proofs.lemmas.Bool.{true≢false}
 use Rattle.std.specs.List.{All}
 use Rattle.abstract_log.specs.declared.command.Workload.{Workload}
 use Rattle.abstract_log.specs.declared.script.Step.{Step}
@@ -22,12 +23,9 @@ itself load goes_on pass z p n ts us ends early up_to = record {
   before = up_to.before;
   ends = elim up_to.ends [
     | inl ended ↦ ended
-    | inr most ↦ absurd (true_false (sym (up_to.before p (omega (arith, early, most))) ∙ ends.ends))
+    | inr most ↦ absurd (true≢false (sym (up_to.before p (omega (arith, early, most))) ∙ ends.ends))
   ];
 }
-  where
-    true_false : true ≡ false → ⊥
-    true_false e = absurd (cc)
 
 pub ample_is_enough : (load : Workload) (z : Stages) (steps : List Step) → IsStanding load z → AreQuiet load z → IsSettlingUpTo ample load z steps → IsSettling load z steps
 ample_is_enough load z steps h quiet s =
