@@ -6,3 +6,4 @@ pub mod OpenedLemmas
 pub mod LiveLemmas
 pub mod LeftLemmas
 pub mod FloorTurns
+pub mod PostTurns

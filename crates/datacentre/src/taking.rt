@@ -6,7 +6,7 @@ ghost use Rattle.record_codec.specs.Wire.{SpellsMessage};
 ghost use Rattle.stage_world.specs.Stages.{Session};
 ghost use Rattle.stage_world.specs.ClientTurns.{client_turn};
 ghost use Rattle.stage_world.specs.Turns.{flush_turn, gossip_turn, pass_turn, place_turn, stamp_turn, token_turn, where_there};
-ghost use Rattle.stage_world.specs.MoreTurns.{collect_turn, floor_turn, learn_turn, receive_turn};
+ghost use Rattle.stage_world.specs.MoreTurns.{collect_turn, floor_turn, learn_turn, post_turn, receive_turn};
 ghost use Rattle.datacentre.specs.Seen.{seen};
 ghost use Rattle.stage_world.specs.Schedules.{turn_of};
 ghost use Rattle.hyksos.specs.Sessions.{writes};
@@ -34,6 +34,7 @@ impl Parts {
             Step::Token { .. } => self.token(),
             Step::Place { q, m, .. } => self.place(*q, *m),
             Step::Gossip { m, k, .. } => self.gossip(*m, *k),
+            Step::Post { m, i, .. } => self.post(*m, *i),
             Step::Learn { .. } => self.learn(),
             Step::Floor { p, .. } => self.raise_floor(*p),
             Step::Collect { m, .. } => self.collect(*m),
@@ -120,6 +121,21 @@ impl Parts {
             &mut self.vectors,
             m,
             k,
+        )
+    }
+
+    /// Indexer i takes what maintainer m has to post.
+    pub fn post(&mut self, m: u32, i: u32) -> Result<TurnDone, NoMemory>
+        requires { MayTurn self.old }
+        ensures { IfOk result (λ done. IsTurned self.old self.new done (where_there (nat_lt m (length self.old.maintainers) && nat_lt i (length self.old.indexers)) (seen self.old) (post_turn (seen self.old) m i))) }
+    {
+        if m as usize >= self.maintainers.len() || i as usize >= self.indexers.len() {
+            return Ok(self.absent());
+        }
+        turns::post(
+            m,
+            self.maintainers.item_mut(m as usize),
+            self.indexers.item_mut(i as usize),
         )
     }
 

@@ -1,35 +1,31 @@
 -- What a look-up sees, and the turn that it makes.
-use Rattle.std.proofs.Common.{◌≡◌, ◌≢◌, ◌⊎◌, ℕ, zero, suc, ◌+◌, ◌<◌, ◌≤◌, Bool, true, false, cond, ltb, eqb, List, [], ◌∷◌, ◌++◌, length, map, take, get_or, set, refl, ap, sym, ◌∙◌, subst, inl, inr, arith, Option, Some, None, IsSome, IsSomeAnd, IfOk, OnErr, Result, Ok, Err, slice_get}
-use Rattle.std.specs.List.{All, Contains, list_any}
+use Rattle.std.proofs.Common.{◌≡◌, ◌≢◌, ◌⊎◌, ℕ, zero, suc, ◌+◌, ◌<◌, ◌≤◌, Bool, true, false, cond, ltb, eqb, List, [], ◌∷◌, ◌++◌, length, map, take, get_or, set, refl, ap, sym, ◌∙◌, subst, inl, inr, arith, Option, Some, None, IsSomeAnd, IfOk, OnErr, Result, Ok, Err, slice_get}
+use Rattle.std.specs.List.{Contains, list_any}
 use Rattle.std.specs.Option.{option_map_or}
-use Rattle.std.proofs.lemmas.Bool.{cond_both, cond-true, cond-false, cases_lt, lt-ltb, le-ltb, eqb-true, eqb-false, or_cases, ltb-true}
+use Rattle.std.proofs.lemmas.Bool.{cond-false, le-ltb, eqb-true, or_cases, ltb-true}
 use Rattle.std.proofs.lemmas.List.{take_more, set-get_or, map-append}
 use Rattle.std.proofs.lemmas.Grind.{common_steps}
-use Rattle.std.proofs.lemmas.Option.{same_Some, slice_get-get_or, slice_get_within, get_or_from_slice_get, slice_get_cases}
-use Rattle.causal_deps.specs.declared.answers.Newest.{Newest}
+use Rattle.std.proofs.lemmas.Option.{same_Some, slice_get_within, get_or_from_slice_get, slice_get_cases}
 use Rattle.causal_deps.specs.declared.answers.Newest.TheVariants.{Behind as BehindNewest, Found as FoundNewest, Absent as AbsentNewest}
-use Rattle.causal_deps.specs.declared.answers.Pin.{Pin}
 use Rattle.causal_deps.specs.declared.answers.Pin.TheVariants.{Pinned, BelowFloor}
 use Rattle.causal_deps.specs.declared.record.Record.{Record}
 use Rattle.causal_deps.specs.declared.record.Place.{Place}
 use Rattle.causal_deps.specs.Logs.{record_at}
 use Rattle.abstract_log.specs.declared.answer.Answer.TheVariants.{Items, Last}
 use Rattle.abstract_log.specs.declared.answer.Found.{Found}
-use Rattle.abstract_log.specs.declared.answer.ReadAnswer.{ReadAnswer}
 use Rattle.abstract_log.specs.declared.answer.ReadAnswer.TheVariants.{Beyond, Gone}
 use Rattle.abstract_log.specs.declared.command.Command.{Command}
 use Rattle.abstract_log.specs.declared.command.Command.TheVariants.{Append as AppendCommand, Put as PutCommand, Get as GetCommand, Tx as TxCommand, Read as ReadCommand, Last as LastCommand}
 use Rattle.abstract_log.specs.Commands.{draft_of}
 use Rattle.cz_base.specs.declared.memory.NoMemory.{NoMemory}
 use Rattle.abstract_log.specs.Answers.{newest, passes, is_put_of, found_at, read_in, shown_record}
-use Rattle.hyksos.specs.declared.looking.Seen.{Seen}
 use Rattle.hyksos.specs.declared.looking.Seen.TheVariants.{Behind, Key, Places, Whole}
-use Rattle.hyksos.specs.Looking.{key_seen, tag_seen, next_key_seen, sight}
+use Rattle.hyksos.specs.Looking.{key_seen, next_key_seen, sight}
 use Rattle.hyksos.specs.Sessions.{SessionState, IsFoundAt, begun, is_look, keys_of, next_command, next_index, next_keys, reading, with_found}
 use Rattle.hyksos.specs.Shelves.{ShelfState, covered_for, last_at, newest_told, pin_of, pin_told, pinned, with_pin}
 use Rattle.hyksos.specs.declared.next.Next.{Next}
 use Rattle.hyksos.specs.declared.next.Next.TheVariants.{Submitted, Unacknowledged, Finished, Behind as BehindNext}
-use Rattle.hyksos.specs.Turns.{Taken, IsTaken, IsWritten, behind, found_at_pin, key_turn, last_turn, look, look_turn, reply, rest, turn_of, turn_with, write_turn}
+use Rattle.hyksos.specs.Turns.{Taken, IsTaken, IsWritten, behind, found_at_pin, key_turn, look, look_turn, reply, rest, turn_of, turn_with, write_turn}
 
 -- a newest value stands at position 1 or above
 newest_first : (log : List Record) (key : List ℕ) (s p : ℕ) → newest log key s ≡ Some p → 1 ≤ p

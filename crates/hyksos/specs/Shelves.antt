@@ -1,5 +1,5 @@
 -- What a session reads through: a log, and how much of it can be read.
-use Rattle.std.specs.Prelude.{◌≡◌, ℕ, ◌<◌, ◌≤◌, ◌%◌, if◌then◌else◌, nat_lt, List, length, take, Option, Some, None, slice_index, slice_index_or, slice_set, sum}
+use Rattle.std.specs.Prelude.{◌≡◌, ℕ, ◌≤◌, ◌%◌, if◌then◌else◌, nat_lt, List, length, take, Option, Some, None, slice_index, slice_index_or, slice_set, sum}
 use Rattle.std.specs.Option.{option_map_or}
 use Rattle.causal_deps.specs.declared.answers.Newest.{Newest}
 use Rattle.causal_deps.specs.declared.answers.Newest.TheVariants.{Behind, Found, Absent}

@@ -2,7 +2,7 @@
 use Rattle.std.proofs.Common.{◌≡◌, ◌≢◌, ℕ, ◌+◌, ◌<◌, ◌≤◌, true, false, Bool, cond, leb, ◌&&◌, List, length, get_or, refl, ap, sym, subst, ◌∙◌, inl, inr, arith, Some, None}
 use Rattle.std.specs.List.{Contains, sum_by}
 use Rattle.std.proofs.lemmas.Option.{same_Some}
-use Rattle.std.proofs.lemmas.Bool.{cases_lt, cond-true, and_from, le-leb, eqb-true}
+use Rattle.std.proofs.lemmas.Bool.{cases_lt, cond-true, and_from, le-leb, eqb-true, true≢false}
 use Rattle.causal_deps.specs.declared.record.Record.{Record}
 use Rattle.causal_deps.specs.declared.record.Item.{Item}
 use Rattle.causal_deps.specs.declared.record.Item.TheVariants.{Local, External}
@@ -25,9 +25,6 @@ use Rattle.settling_laws.specs.Rounds.{IsDrained}
 use Rattle.settling_laws.proofs.Behind.{IsDueAt}
 use Rattle.settling_laws.proofs.Drafts.{sum_none}
 use Rattle.settling_laws.proofs.Marks.{some_term}
-
-true_false : true ≡ false → ⊥
-true_false e = absurd (cc)
 
 -- what is named is a record of this name
 named_is : (h t : ℕ) (item : Item) → 1 ≤ is_named h t item → (r : Record) × (item ≡ External r) × (r.host ≡ h) × (r.toid ≡ t)
@@ -62,7 +59,7 @@ module _ (w : World) (e : ℕ) (z : Datacentre) (stands : StandsAt w e z) (drain
       let at_name : nth_of (log_of w h) h t ≡ Some its.0 = subst (λ u. nth_of (log_of w h) h u ≡ Some its.0) its.3 (subst (λ i. nth_of (log_of w i) i its.0.toid ≡ Some its.0) its.2 of.known) in
       let same : its.0 ≡ r = same_Some its.0 r (sym at_name ∙ is) in
       let waits : is_ready z.token.counts item ≡ false = drained.deferred found.0 nothing found.1 in
-      true_false (sym ready ∙ ap (λ q. is_ready z.token.counts (External q)) (sym same) ∙ ap (is_ready z.token.counts) (sym its.1) ∙ waits)
+      true≢false (sym ready ∙ ap (λ q. is_ready z.token.counts (External q)) (sym same) ∙ ap (is_ready z.token.counts) (sym its.1) ∙ waits)
 
   -- a smaller number was passed
   passed_before : (u : ℕ) → 1 ≤ u → u < t → 1 ≤ passed h u fs
@@ -88,7 +85,7 @@ module _ (w : World) (e : ℕ) (z : Datacentre) (stands : StandsAt w e z) (drain
       elim (held_waits f x ((sound_at i within).none_free k q inside)) [
         | inr marked ↦
             let none : f.accepted ≡ None = stands.sound.heard i within ∙ ap (λ a. mark_accepted a i) quiet in
-            true_false (sym marked ∙ ap (λ a. is_held_back a x.host x.toid) none)
+            true≢false (sym marked ∙ ap (λ a. is_held_back a x.host x.toid) none)
         | inl waits ↦
             let u : ℕ = waits.0 in
             let some_passed : 1 ≤ passed h u fs = passed_before u waits.1 (omega (arith, waits.2, toid)) in
@@ -99,7 +96,7 @@ module _ (w : World) (e : ℕ) (z : Datacentre) (stands : StandsAt w e z) (drain
             let here : champion z.map h u ≡ i = champion_at i u within own in
             let same : found.0 ≡ i = sym by ∙ here in
             let unpassed : is_passed f h u ≡ false = ap (λ j. is_passed f j u) (sym host) ∙ waits.4 in
-            true_false (sym was ∙ ap (λ j. is_passed (filter_at fs j) h u) same ∙ unpassed)
+            true≢false (sym was ∙ ap (λ j. is_passed (filter_at fs j) h u) same ∙ unpassed)
       ]
     where
       passes : (b : Bool) → 1 ≤ cond b 1 0 → b ≡ true

@@ -1,10 +1,10 @@
 -- How much work is left at most, in a workload within the limits.
-use Rattle.std.proofs.Common.{◌≡◌, ◌⊎◌, ℕ, zero, suc, ◌+◌, ◌-◌, ◌*◌, ◌<◌, ◌≤◌, Bool, true, false, cond, eqb, List, [], ◌∷◌, length, drop, get_or, refl, ap, sym, subst, ◌∙◌, inl, inr, arith}
+use Rattle.std.proofs.Common.{◌≡◌, ◌⊎◌, ℕ, zero, suc, ◌+◌, ◌-◌, ◌*◌, ◌<◌, ◌≤◌, cond, eqb, List, [], ◌∷◌, length, drop, get_or, refl, ap, sym, subst, ◌∙◌, inl, inr, arith}
 use Rattle.std.specs.List.{All, AllPairs, sum_by}
 use Rattle.std.proofs.lemmas.List.{get_or-map, length-map}
 use Rattle.std.proofs.lemmas.List.Elements.{All-cons, All-head, All-tail, All-weaker}
 use Rattle.std.proofs.lemmas.List.Sums.{sum_by-cons, sum_by-le}
-use Rattle.std.proofs.lemmas.Bool.{cases_lt, cases_eq, cond_both, cond-true, eq-eqb, eqb-true, eqb-false}
+use Rattle.std.proofs.lemmas.Bool.{cases_eq, cond_both, cond-true, cond-false, eq-eqb, ne_eqb}
 use Rattle.abstract_log.specs.declared.command.Command.{Command}
 use Rattle.abstract_log.specs.declared.command.Command.TheVariants.{Append, Put, Get, Tx, Read, Last}
 use Rattle.abstract_log.specs.declared.command.SessionPlan.{SessionPlan}
@@ -12,9 +12,9 @@ use Rattle.abstract_log.specs.declared.command.Workload.{Workload}
 use Rattle.abstract_log.specs.Commands.{no_plan}
 use Rattle.abstract_log.specs.Fits.{FitsCommand, FitsPlan, FitsLimits, commands_of}
 use Rattle.log_laws.specs.Writes.{sum_below}
-use Rattle.log_laws.proofs.Sums.{sum_by-places}
+use Rattle.log_laws.proofs.Sums.{sum_below-same, sum_below-le, sum_below-add, sum_below-zero, sum_below-alone, sum_by-places}
 use Rattle.toid_filter.proofs.Tests.{pairs_parts}
-use Rattle.stage_world.specs.Stages.{Datacentre, Session, Stages}
+use Rattle.stage_world.specs.Stages.{Session, Stages}
 use Rattle.stage_world.specs.StandsFor.{StandsAt, numbers_of}
 use Rattle.stage_world.specs.Whole.{datacentre_at, nowhere_at}
 use Rattle.settling_laws.specs.Rounds.{IsStanding, work_of, left_to, left_at, left_in}
@@ -43,38 +43,18 @@ work_all dcs (plan ∷ plans) all =
 abbrev work_at : ℕ → SessionPlan → ℕ
 work_at d plan = cond (eqb plan.home d) (work_in plan) 0
 
--- a number is one home's at most
-one_home : (h x n : ℕ) → (sum_below (λ d. cond (eqb h d) x 0) n ≤ x) × (n ≤ h → sum_below (λ d. cond (eqb h d) x 0) n ≡ 0)
-one_home h x zero = (omega arith, λ past. refl)
-one_home h x (suc n) =
-    let before = one_home h x n in
-    (cond_both (eqb h n) x 0 (λ k. sum_below (λ d. cond (eqb h d) x 0) n + k ≤ x) (λ here. omega (arith, before.1 (omega (arith, eqb-true h n here)))) (λ _. omega (arith, before.0)),
-      λ past. cond_both (eqb h n) x 0 (λ k. sum_below (λ d. cond (eqb h d) x 0) n + k ≡ 0) (λ here. absurd (omega (arith, past, eqb-true h n here))) (λ _. omega (arith, before.1 (omega (arith, past)))))
-
--- all homes together are at most all plans
-sum_added : (f g : ℕ → ℕ) (n : ℕ) → sum_below (λ d. f d + g d) n ≡ sum_below f n + sum_below g n
-sum_added f g zero = refl
-sum_added f g (suc n) = omega (arith, sum_added f g n)
-
-sum_alike : (f g : ℕ → ℕ) (n : ℕ) → ((i : ℕ) → f i ≡ g i) → sum_below f n ≡ sum_below g n
-sum_alike f g zero same = refl
-sum_alike f g (suc n) same = omega (arith, sum_alike f g n same, same n)
-
-sum_most : (f g : ℕ → ℕ) (n : ℕ) → ((i : ℕ) → i < n → f i ≤ g i) → sum_below f n ≤ sum_below g n
-sum_most f g zero most = omega arith
-sum_most f g (suc n) most = omega (arith, sum_most f g n (λ i low. most i (omega arith)), most n (omega arith))
-
-nothing_below : (n : ℕ) → sum_below (λ d. 0) n ≡ 0
-nothing_below zero = refl
-nothing_below (suc n) = omega (arith, nothing_below n)
+-- all homes together have at most what all plans have
+one_home : (plan : SessionPlan) (n : ℕ) → sum_below (λ d. work_at d plan) n ≤ work_in plan
+one_home plan n = sum_below-alone (λ d. work_at d plan) n plan.home (work_in plan) (λ d other. cond-false (eqb plan.home d) (work_in plan) 0 (ne_eqb plan.home d (λ same. other (sym same))))
+    (cond_both (eqb plan.home plan.home) (work_in plan) 0 (λ k. k ≤ work_in plan) (λ _. omega arith) (λ _. omega arith))
 
 all_homes : (plans : List SessionPlan) (n : ℕ) → sum_below (λ d. sum_by (work_at d) plans) n ≤ sum_by work_in plans
-all_homes [] n = omega (arith, nothing_below n)
+all_homes [] n = omega (arith, sum_below-zero (λ d. 0) n (λ i _. refl))
 all_homes (plan ∷ plans) n = omega (
   arith,
-  sum_alike (λ d. sum_by (work_at d) (plan ∷ plans)) (λ d. work_at d plan + sum_by (work_at d) plans) n (λ d. sum_by-cons (work_at d) plan plans),
-  sum_added (λ d. work_at d plan) (λ d. sum_by (work_at d) plans) n,
-  (one_home plan.home (work_in plan) n).0,
+  sum_below-same (λ d. sum_by (work_at d) (plan ∷ plans)) (λ d. work_at d plan + sum_by (work_at d) plans) n (λ d _. sum_by-cons (work_at d) plan plans),
+  sum_below-add (λ d. work_at d plan) (λ d. sum_by (work_at d) plans) n,
+  one_home plan n,
   all_homes plans n,
   sum_by-cons work_in plan plans,
 )
@@ -133,7 +113,13 @@ sessions_few (plan ∷ plans) a d (x ∷ xs) all rise =
         let home : plan.home ≡ d = ap (λ (p : SessionPlan). p.home) (sym plan_is) ∙ first.home in
         let commands : x.commands ≡ plan.commands = first.commands ∙ ap (λ (p : SessionPlan). p.commands) plan_is in
         omega (
-          arith, by_rest later, left_few x, ap (sum_by work_of) commands, cond-true (eqb plan.home d) (work_in plan) 0 (eq-eqb plan.home d home), sum_by-cons left_to x xs, sum_by-cons (work_at d) plan plans,
+          arith,
+          by_rest later,
+          left_few x,
+          ap (sum_by work_of) commands,
+          cond-true (eqb plan.home d) (work_in plan) 0 (eq-eqb plan.home d home),
+          sum_by-cons left_to x xs,
+          sum_by-cons (work_at d) plan plans,
         )
     at (inr other) by_rest by_whole =
         let beyond : a < x.number = omega (arith, other, first.from) in
@@ -147,19 +133,19 @@ left_most load z h =
     let each : (d : ℕ) → d < length z.datacentres → left_at (datacentre_at z d) ≤ sum_by (work_at d) plans = λ d inside.
     let stands : StandsAt h.world d (datacentre_at z d) = stands_here load z d (omega (arith, inside, dcs_of load z h)) h in
     sessions_few plans 0 d (datacentre_at z d).sessions (λ k e within.
-        let far = stands.sessions k e within in
-        let x : Session = get_or (datacentre_at z d).sessions k e in
-        let none : x.number - 0 ≡ x.number = omega arith in
-        record {
-          from = omega arith;
-          there = omega (arith, far.home.there, none, ap (λ (l : Workload). length l.sessions) h.workload);
-          home = ap (λ i. (get_or plans i no_plan).home) none ∙ ap (λ (l : Workload). (get_or l.sessions x.number no_plan).home) (sym h.workload) ∙ far.home.home;
-          commands = far.commands ∙ ap (λ (l : Workload). (get_or l.sessions x.number no_plan).commands) h.workload ∙ ap (λ i. (get_or plans i no_plan).commands) (sym none);
-        }) stands.ordered in
+    let far = stands.sessions k e within in
+    let x : Session = get_or (datacentre_at z d).sessions k e in
+    let none : x.number - 0 ≡ x.number = omega arith in
+    record {
+      from = omega arith;
+      there = omega (arith, far.home.there, none, ap (λ (l : Workload). length l.sessions) h.workload);
+      home = ap (λ i. (get_or plans i no_plan).home) none ∙ ap (λ (l : Workload). (get_or l.sessions x.number no_plan).home) (sym h.workload) ∙ far.home.home;
+      commands = far.commands ∙ ap (λ (l : Workload). (get_or l.sessions x.number no_plan).commands) h.workload ∙ ap (λ i. (get_or plans i no_plan).commands) (sym none);
+    }) stands.ordered in
     omega (
       arith,
       sum_by-places left_at z.datacentres nowhere_at,
-      sum_most (λ d. left_at (datacentre_at z d)) (λ d. sum_by (work_at d) plans) (length z.datacentres) each,
+      sum_below-le (λ d. left_at (datacentre_at z d)) (λ d. sum_by (work_at d) plans) (length z.datacentres) each,
       all_homes plans (length z.datacentres),
       work_all load.dcs plans limits.plans,
       limits.commands,

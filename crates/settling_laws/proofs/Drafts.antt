@@ -4,7 +4,7 @@ use Rattle.std.specs.List.{All, sum_by}
 use Rattle.std.specs.Option.{option_and_then}
 use Rattle.std.proofs.lemmas.List.Elements.{All-head, All-tail}
 use Rattle.std.proofs.lemmas.List.Sums.{sum_by-cons}
-use Rattle.std.proofs.lemmas.Bool.{eq-eqb, cond-true}
+use Rattle.std.proofs.lemmas.Bool.{eq-eqb, cond-true, true≢false}
 use Rattle.causal_deps.specs.declared.record.Record.{Record}
 use Rattle.causal_deps.specs.declared.record.Draft.{Draft}
 use Rattle.causal_deps.specs.declared.record.Item.{Item}
@@ -65,10 +65,7 @@ module _ (load : Workload) (d : ℕ) (z : Datacentre) (l : IsLive load d z) (dra
 
   -- so none waits
   no_draft : (s : ℕ) (item : Item) → Due item → is_ready z.token.counts item ≡ false → is_draft_of s item ≡ 0
-  no_draft s (Local draft) due waits = absurd (true_false (sym (ready draft due) ∙ waits))
-    where
-      true_false : true ≡ false → ⊥
-      true_false e = absurd (cc)
+  no_draft s (Local draft) due waits = absurd (true≢false (sym (ready draft due) ∙ waits))
   no_draft s (External r) due waits = refl
 
   none_deferred : (s : ℕ) → sum_by (is_draft_of s) z.token.deferred ≡ 0

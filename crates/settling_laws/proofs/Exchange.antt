@@ -3,7 +3,7 @@ use Rattle.std.proofs.Common.{◌≡◌, ◌≢◌, ◌⊎◌, ℕ, ◌+◌, ◌
 use Rattle.std.specs.List.{All, Contains}
 use Rattle.std.proofs.lemmas.List.Elements.{All-nil, All-head, All-tail, All-append, All-contains, All-weaker}
 use Rattle.std.proofs.lemmas.Option.{same_Some}
-use Rattle.std.proofs.lemmas.Bool.{cases_lt, cond_both, and_parts, and_from, eqb-true, eq-eqb, ltb-true, lt-ltb, or_parts}
+use Rattle.std.proofs.lemmas.Bool.{cases_lt, cond_both, and_parts, and_from, eqb-true, eq-eqb, ltb-true, lt-ltb, or_parts, true≢false}
 use Rattle.causal_deps.specs.declared.record.Record.{Record}
 use Rattle.causal_deps.specs.Counts.{entry_of}
 use Rattle.causal_deps.specs.Logs.{count_of, IsCausal}
@@ -157,15 +157,12 @@ module _ (load : Workload) (z : Stages) (h : IsStanding load z) (x : Errand) (go
         leads = record { standing = h; behind = behind_itself w };
         datacentres = refl;
         beside = λ g. beside_itself (datacentre_at z g);
-        told = λ first. absurd (true_false (sym (eq-eqb x.sender 0 first) ∙ parts.0));
+        told = λ first. absurd (true≢false (sym (eq-eqb x.sender 0 first) ∙ parts.0));
         due = λ q next. elim (next_told q next) [
           | inl there ↦ inr (subst (λ i. q.toid ≤ count_of (log_of w x.to) i) (sym next.host) there)
-          | inr told ↦ absurd (true_false (sym (lt-ltb 0 (length m.records) (omega (arith, told.1))) ∙ parts.1))
+          | inr told ↦ absurd (true≢false (sym (lt-ltb 0 (length m.records) (omega (arith, told.1))) ∙ parts.1))
         ];
       }
-    where
-      true_false : true ≡ false → ⊥
-      true_false e = absurd (cc)
 
   errand_run : IsRun (after_steps load z (errand_turns load z x)) (errand_turns load z x)
   errand_run = cond_both (is_due z x) (sent_and_delivered load z x) [] (λ ts. IsRun (after_steps load z ts) ts) (λ _. due_run) idle_run

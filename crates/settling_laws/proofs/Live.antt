@@ -8,7 +8,6 @@ use Rattle.abstract_log.specs.declared.script.Step.{Step}
 use Rattle.abstract_log.specs.declared.script.Step.TheVariants.{Client, Flush, Pass, Stamp, Token, Place, Gossip, Post, Learn}
 use Rattle.abstract_log.specs.declared.world.World.{World}
 use Rattle.abstract_log.specs.Runs.{after_all}
-use Rattle.log_laws.specs.Lawful.{IsLawful}
 use Rattle.stage_world.specs.Stages.{Datacentre, Stages}
 use Rattle.stage_world.specs.StandsFor.{IsAt, StandsAt}
 use Rattle.stage_world.specs.Whole.{datacentre_at, nowhere_at, with_turn}
@@ -82,9 +81,6 @@ in_stages load d z within h = omega (arith, h.stands.size, ap (λ (l : Workload)
 
 pub stands_at : (load : Workload) (d : ℕ) (z : Datacentre) (l : IsLive load d z) → StandsAt (world_at load d z l) d z
 stands_at load d z l = subst (StandsAt l.standing.world d) l.at (l.standing.stands.each d (omega (arith, l.within, ap (λ (x : Workload). x.dcs) l.standing.workload)))
-
-pub lawful_at : (load : Workload) (d : ℕ) (z : Datacentre) (l : IsLive load d z) → IsLawful (world_at load d z l)
-lawful_at load d z l = l.standing.lawful
 
 -- after a step the stages stand for a lawful world
 pub step_stands : (load : Workload) (z : Stages) (t : Step) → IsStep load t → IsStanding load z → IsStanding load (step_of load z t).after

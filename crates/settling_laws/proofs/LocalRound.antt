@@ -13,7 +13,8 @@ use Rattle.stage_world.specs.Schedules.{IsStep}
 use Rattle.stage_world.specs.Settling.{below, clients, flushes, passes, ring, places, gossips, posts, local_round}
 use Rattle.settling_laws.specs.Rounds.{HasSameMembers, IsRounded, IsStanding, IsSettledByRound}
 use Rattle.settling_laws.proofs.Live.{IsTurnAt, IsLive, IsWalk, turned, walked, walked-append, walk, turn_good, in_stages}
-use Rattle.settling_laws.proofs.Walks.{All-numbered, All-pieces}
+use Rattle.stage_world.proofs.OpeningLemmas.{All-numbered}
+use Rattle.settling_laws.proofs.Walks.{All-pieces}
 use Rattle.settling_laws.proofs.Rounding.{IsInRound, round_begins}
 use Rattle.settling_laws.proofs.Gathering.{IsClientOf, client_at, all_clients, IsWithToken, clients_keep_token, flushes_empty, passes_empty}
 use Rattle.settling_laws.proofs.Ring.{ring_drains}

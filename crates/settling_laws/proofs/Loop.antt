@@ -1,7 +1,7 @@
 -- The rounds of answering end.
 use Rattle.std.proofs.Common.{◌≡◌, ℕ, zero, suc, ◌+◌, ◌<◌, ◌≤◌, true, false, Bool, List, length, refl, ap, sym, subst, ◌∙◌, inl, inr, arith}
 use Rattle.std.specs.List.{All}
-use Rattle.std.proofs.lemmas.Bool.{cases_lt, cases_Bool}
+use Rattle.std.proofs.lemmas.Bool.{cases_lt, cases_Bool, true≢false}
 use Rattle.std.proofs.lemmas.List.{get_or_default}
 use Rattle.std.proofs.lemmas.List.Elements.{All-nil, All-append}
 use Rattle.abstract_log.specs.declared.command.Workload.{Workload}
@@ -71,11 +71,8 @@ module _ (load : Workload) (z : Stages) (h : IsStanding load z) where
   ready_after : AreReady load new
   ready_after d within waits = elim (cases_Bool (test d)) [
     | inl some ↦ subst (IsRounded d) (sym (pass_is.done d (omega (arith, within, size)) some)) (round_rounds load d (datacentre_at z d) (live d within)).rounded
-    | inr none ↦ absurd (true_false (sym waits ∙ ap has_unanswered (pass_is.still d (λ _. none)) ∙ none))
+    | inr none ↦ absurd (true≢false (sym waits ∙ ap has_unanswered (pass_is.still d (λ _. none)) ∙ none))
   ]
-    where
-      true_false : true ≡ false → ⊥
-      true_false e = absurd (cc)
 
   fewer_after : AreReady load z → is_answering z ≡ true → left_in new < left_in z
   fewer_after ready some =
@@ -161,6 +158,10 @@ module _ (load : Workload) (z : Stages) (h : IsStanding load z) where
   -- the turns of any number of passes are steps that a script may have
   pub answering_steps : (n : ℕ) → All (IsStep load) (turns_to n)
   answering_steps n = (leads_to n).steps
+
+  -- and they change no members
+  pub answering_members : (n d : ℕ) → HasSameMembers (datacentre_at z d) (datacentre_at (after_steps load z (turns_to n)) d)
+  answering_members n d = subst (λ s. HasSameMembers (datacentre_at z d) (datacentre_at s d)) (sym (leads_to n).is) ((leads_to n).members d)
 
   -- The loop of answering ends.
   pub answering_ends_at : EndsAnswering load z

@@ -1,5 +1,6 @@
 -- How far sessions are: what is left to each, and which goes on.
-use Rattle.std.proofs.Common.{◌≡◌, ◌⊎◌, ℕ, zero, suc, ◌+◌, ◌<◌, ◌≤◌, true, false, List, [], ◌∷◌, length, drop, refl, ap, sym, subst, ◌∙◌, inl, inr, arith, Some, slice_get}
+use Rattle.std.proofs.Common.{◌≡◌, ◌⊎◌, ℕ, zero, suc, ◌+◌, ◌<◌, ◌≤◌, true, List, [], ◌∷◌, length, drop, refl, ap, sym, subst, ◌∙◌, inl, inr, arith, Some, slice_get}
+use Rattle.std.proofs.lemmas.Bool.{true≢false}
 use Rattle.std.specs.List.{sum_by}
 use Rattle.std.proofs.lemmas.List.Sums.{sum_by-cons}
 use Rattle.abstract_log.specs.declared.command.Command.{Command}
@@ -62,9 +63,6 @@ moved_less x y none moves = elim moves [
   | inl write ↦ absurd (true≢false (sym write.writes ∙ none write.command write.begun write.is))
   | inr less ↦ less
 ]
-  where
-    true≢false : true ≡ false → ⊥
-    true≢false e = absurd (cc)
 
 -- what is left from the next command on is its work and what is left behind it
 pub drop_next : {X : Type 0} (f : X → ℕ) (xs : List X) (n : ℕ) (x : X) → slice_get xs n ≡ Some x → sum_by f (drop n xs) ≡ f x + sum_by f (drop (n + 1) xs)

@@ -1,7 +1,7 @@
 -- Local rounds of several datacentres, one after another.
 use Rattle.std.proofs.Common.{◌≡◌, ℕ, zero, suc, ◌<◌, ◌≤◌, true, false, Bool, cond, List, [], ◌∷◌, ◌++◌, length, refl, ap, sym, subst, ◌∙◌, inl, inr, arith, append-nil}
 use Rattle.std.specs.List.{All, filter, flat_map}
-use Rattle.std.proofs.lemmas.Bool.{cases_eq, cond_both}
+use Rattle.std.proofs.lemmas.Bool.{cases_eq, cond_both, true≢false}
 use Rattle.std.proofs.lemmas.Grind.{flat_map-append}
 use Rattle.std.proofs.lemmas.List.Elements.{All-nil, All-append, All-weaker, filter-append}
 use Rattle.abstract_log.specs.declared.command.Workload.{Workload}
@@ -51,13 +51,10 @@ module _ (load : Workload) (z : Stages) (h : IsStanding load z) (test : ℕ → 
           | inr other ↦ moved.others d other ∙ so_far.done d (omega (arith, low, other)) test_d
         ];
         still = λ d none. ap (λ s. datacentre_at s d) is ∙ elim (cases_eq d n) [
-          | inl here ↦ absurd (true_false (sym passes ∙ ap test (sym here) ∙ none (omega (arith, here))))
+          | inl here ↦ absurd (true≢false (sym passes ∙ ap test (sym here) ∙ none (omega (arith, here))))
           | inr other ↦ moved.others d other ∙ so_far.still d (λ low. none (omega (arith, low)))
         ];
       }
-    where
-      true_false : true ≡ false → ⊥
-      true_false e = absurd (cc)
 
   none_more : (n : ℕ) (ts : List Step) → AreRoundsOf load z test n ts → test n ≡ false → AreRoundsOf load z test (suc n) ts
   none_more n ts so_far fails = record {
@@ -66,14 +63,11 @@ module _ (load : Workload) (z : Stages) (h : IsStanding load z) (test : ℕ → 
     datacentres = so_far.datacentres;
     links = so_far.links;
     done = λ d low test_d. elim (cases_eq d n) [
-      | inl here ↦ absurd (true_false (sym test_d ∙ ap test here ∙ fails))
+      | inl here ↦ absurd (true≢false (sym test_d ∙ ap test here ∙ fails))
       | inr other ↦ so_far.done d (omega (arith, low, other)) test_d
     ];
     still = λ d none. so_far.still d (λ low. none (omega (arith, low)));
   }
-    where
-      true_false : true ≡ false → ⊥
-      true_false e = absurd (cc)
 
   abbrev round_of : ℕ → List Step
   round_of d = local_round d (datacentre_at z d)

@@ -39,7 +39,7 @@ passes_reach load pass z zero = refl
 passes_reach load pass z (suc n) =
     after_steps-append load (turns_of_passes load pass z n) (pass load (after_passes load pass z n)) z ∙ ap (λ s. after_steps load s (pass load (after_passes load pass z n))) (passes_reach load pass z n)
 
-loop_reaches : (load : Workload) (goes_on : Stages → Bool) (pass : Workload → Stages → List Step) (z : Stages) (n : ℕ) (ts : List Step) → IsLoop load goes_on pass z n ts → goes_on (after_steps load z ts) ≡ false
+pub loop_reaches : (load : Workload) (goes_on : Stages → Bool) (pass : Workload → Stages → List Step) (z : Stages) (n : ℕ) (ts : List Step) → IsLoop load goes_on pass z n ts → goes_on (after_steps load z ts) ≡ false
 loop_reaches load goes_on pass z n ts h = ap (λ us. goes_on (after_steps load z us)) h.turns ∙ ap goes_on (passes_reach load pass z n) ∙ h.ends
 
 -- Settling ends.

@@ -3,7 +3,7 @@ use Rattle.std.proofs.Common.{◌≡◌, ◌⊎◌, ℕ, ◌%◌, ◌<◌, ◌�
 use Rattle.std.specs.List.{All, Contains, flat_map, fold}
 use Rattle.std.proofs.lemmas.List.Elements.{All-nil, All-cons, All-head, All-tail, All-append, All-contains}
 use Rattle.std.proofs.lemmas.List.Sums.{sum_by-cons}
-use Rattle.std.proofs.lemmas.Bool.{cases_lt, cases_eq, cond_both, cond-true, cond-false, ltb-true, ltb-false, eq-eqb, eqb-true}
+use Rattle.std.proofs.lemmas.Bool.{cases_lt, cases_eq, cond_both, cond-true, cond-false, ltb-true, ltb-false, eq-eqb, eqb-true, true≢false}
 use Rattle.causal_deps.specs.declared.record.Record.{Record}
 use Rattle.maintainer.specs.declared.slot.Slot.{Slot}
 use Rattle.maintainer.specs.Maintainers.{MaintainerState, times_in, times, times_filled}
@@ -68,14 +68,14 @@ All-stocked P sorted (e ∷ es) had all =
 abbrev entries_for : List (MaintainerState Record) → ℕ → ℕ → List (Slot Record)
 entries_for ms k n = flat_map (λ m. cond (eqb (m.number % n) k) m.entries []) ms
 
-in_left : {X : Type 0} (xs ys : List X) (x : X) → Contains xs x → Contains (xs ++ ys) x
+pub in_left : {X : Type 0} (xs ys : List X) (x : X) → Contains xs x → Contains (xs ++ ys) x
 in_left [] ys x has = absurd (omega (arith, has.1))
 in_left (y ∷ xs) ys x has = elim (Contains-cases y x xs has) [
   | inl same ↦ subst (Contains (y ∷ xs ++ ys)) same (Contains-head y (xs ++ ys))
   | inr later ↦ Contains-tail y x (xs ++ ys) (in_left xs ys x later)
 ]
 
-in_right : {X : Type 0} (xs ys : List X) (x : X) → Contains ys x → Contains (xs ++ ys) x
+pub in_right : {X : Type 0} (xs ys : List X) (x : X) → Contains ys x → Contains (xs ++ ys) x
 in_right [] ys x has = has
 in_right (y ∷ xs) ys x has = Contains-tail y x (xs ++ ys) (in_right xs ys x has)
 
@@ -148,9 +148,6 @@ first_told d known (x ∷ xs) q rise has new only = at (is_new d known x.rec) re
     at false is later =
         subst (λ rs. Contains (take 16 rs) q.rec) (sym (cond-false (is_new d known x.rec) (x.rec ∷ filter (is_new d known) (records_in xs)) (filter (is_new d known) (records_in xs)) is))
         (elim (Contains-cases x q xs has) [
-          | inl same ↦ absurd (true_false (sym new ∙ ap (λ (y : Stocked). is_new d known y.rec) (sym same) ∙ is))
+          | inl same ↦ absurd (true≢false (sym new ∙ ap (λ (y : Stocked). is_new d known y.rec) (sym same) ∙ is))
           | inr there ↦ later there
         ])
-      where
-        true_false : true ≡ false → ⊥
-        true_false e = absurd (cc)

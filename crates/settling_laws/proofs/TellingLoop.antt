@@ -1,7 +1,7 @@
 -- The rounds of telling end.
 use Rattle.std.proofs.Common.{◌≡◌, ℕ, zero, suc, ◌+◌, ◌*◌, ◌<◌, ◌≤◌, true, false, Bool, not, List, [], ◌∷◌, length, get_or, refl, ap, sym, subst, ◌∙◌, inl, inr, arith}
 use Rattle.std.specs.List.{All, list_any}
-use Rattle.std.proofs.lemmas.Bool.{cases_lt, cases_Bool, or_parts, or_from, ltb-true, ltb-false}
+use Rattle.std.proofs.lemmas.Bool.{cases_lt, cases_Bool, or_parts, or_from, ltb-true, ltb-false, true≢false}
 use Rattle.std.proofs.lemmas.List.{get_or_default}
 use Rattle.std.proofs.lemmas.List.Elements.{All-nil, All-append, All-from_get_or}
 use Rattle.std.proofs.lemmas.List.Sums.{sum_by-le, get_or-le-sum_by}
@@ -104,12 +104,9 @@ module _ (load : Workload) (z : Stages) (h : IsStanding load z) where
     differs : (n : ℕ) → is_unfinished (at n) ≡ true → is_agreed (at n) ≡ false
     differs n is = by (is_agreed (at n)) refl
       where
-        true_false : true ≡ false → ⊥
-        true_false e = absurd (cc)
-
         by : (b : Bool) → is_agreed (at n) ≡ b → is_agreed (at n) ≡ false
         by false e = e
-        by true e = absurd (true_false (sym is ∙ or_from (is_answering (at n)) (not (is_agreed (at n))) (answered_at n) (ap not e)))
+        by true e = absurd (true≢false (sym is ∙ or_from (is_answering (at n)) (not (is_agreed (at n))) (answered_at n) (ap not e)))
 
     grows : (n : ℕ) → is_agreed (at (suc (suc n))) ≡ false → total (at (suc n)) < total (at (suc (suc (suc n))))
     grows n differ =

@@ -22,13 +22,13 @@ use Rattle.stage_world.specs.Opening.{numbered}
 use Rattle.stage_world.specs.Whole.{datacentre_at, nowhere_at}
 use Rattle.stage_world.specs.Schedules.{IsStep, after_steps}
 use Rattle.stage_world.specs.Settling.{Errand, below, rounds, all_rounds, errands, exchange_turns, telling_rounds}
-use Rattle.stage_world.proofs.ListLemmas.{Contains-cases, Contains-head, Contains-tail}
+use Rattle.stage_world.proofs.ListLemmas.{Contains-head}
 use Rattle.settling_laws.specs.Rounds.{HasSameMembers, IsRounded, IsStanding, left_at, left_in}
 use Rattle.settling_laws.proofs.LocalRound.{IsRoundOf, live_at, round_rounds}
 use Rattle.settling_laws.proofs.Answering.{sum_less, round_no_more}
 use Rattle.settling_laws.proofs.Rounds.{AreRoundsOf, rounds_are, rounded_at, after_steps-append}
 use Rattle.settling_laws.proofs.Behind.{LeadsTo, steps_lead, stands_here}
-use Rattle.settling_laws.proofs.Stocks.{some_entry, stock_has}
+use Rattle.settling_laws.proofs.Stocks.{in_left, in_right, some_entry, stock_has}
 use Rattle.settling_laws.proofs.Exchange.{IsErrand, IsNext, IsExchanged, exchanged}
 use Rattle.settling_laws.proofs.Choosing.{IsMissing}
 
@@ -78,17 +78,6 @@ all_pieces P g (suc n) each = subst (All P) (sym (flat_map-append g (below n) (n
     (All-append P (flat_map g (below n)) (g n) (all_pieces P g n (λ i low. each i (omega arith))) (each n (omega arith)))
 
 -- and one of them
-in_left : {X : Type 0} (xs ys : List X) (x : X) → Contains xs x → Contains (xs ++ ys) x
-in_left [] ys x has = absurd (omega (arith, has.1))
-in_left (y ∷ xs) ys x has = elim (Contains-cases y x xs has) [
-  | inl same ↦ subst (Contains (y ∷ xs ++ ys)) same (Contains-head y (xs ++ ys))
-  | inr later ↦ Contains-tail y x (xs ++ ys) (in_left xs ys x later)
-]
-
-in_right : {X : Type 0} (xs ys : List X) (x : X) → Contains ys x → Contains (xs ++ ys) x
-in_right [] ys x has = has
-in_right (y ∷ xs) ys x has = Contains-tail y x (xs ++ ys) (in_right xs ys x has)
-
 one_below : {X : Type 0} (f : ℕ → X) (n i : ℕ) → i < n → Contains (numbered f n) (f i)
 one_below f zero i low = absurd (omega (arith, low))
 one_below f (suc n) i low = elim (cases_lt i n) [

@@ -3,7 +3,7 @@ use Rattle.std.proofs.Common.{◌≡◌, ◌⊎◌, ℕ, zero, suc, ◌<◌, Lis
 use Rattle.std.specs.List.{All, flat_map}
 use Rattle.std.proofs.lemmas.Bool.{cases_lt}
 use Rattle.std.proofs.lemmas.Grind.{flat_map-append}
-use Rattle.std.proofs.lemmas.List.Elements.{All-nil, All-push, All-append}
+use Rattle.std.proofs.lemmas.List.Elements.{All-nil, All-append}
 use Rattle.abstract_log.specs.declared.script.Step.{Step}
 use Rattle.stage_world.specs.Stages.{Datacentre}
 use Rattle.stage_world.specs.Opening.{numbered}
@@ -71,11 +71,7 @@ along_flat P d g (suc n) z first each =
     let is : walked d z (flat_map g (below (suc n))) ≡ walked d (walked d z (flat_map g (below n))) (g n) = ap (walked d z) split ∙ walked-append d (flat_map g (below n)) (g n) z in
     subst (P (suc n)) (sym is) (each n (walked d z (flat_map g (below n))) (omega arith) so_far)
 
--- all of numbered steps, and of pieces
-pub All-numbered : (P : Step → Type 0) (f : ℕ → Step) (n : ℕ) → ((i : ℕ) → P (f i)) → All P (numbered f n)
-All-numbered P f zero each = All-nil P
-All-numbered P f (suc n) each = All-push P (numbered f n) (f n) (All-numbered P f n each) (each n)
-
+-- all of pieces
 pub All-pieces : (P : Step → Type 0) (g : ℕ → List Step) (is : List ℕ) → ((i : ℕ) → All P (g i)) → All P (flat_map g is)
 All-pieces P g [] each = All-nil P
 All-pieces P g (i ∷ is) each = All-append P (g i) (flat_map g is) (each i) (All-pieces P g is each)

@@ -2,6 +2,7 @@
 use Rattle.std.specs.Prelude.{◌≡◌, ℕ, ◌+◌, ◌*◌, ◌<◌, ◌≤◌, List, All, None}
 use Rattle.abstract_log.specs.declared.command.Workload.{Workload}
 use Rattle.abstract_log.specs.declared.script.Step.{Step}
+use Rattle.abstract_log.specs.declared.script.Step.TheVariants.{Announce}
 use Rattle.abstract_log.specs.declared.world.World.{World}
 use Rattle.abstract_log.specs.Runs.{CanAllHappen, IsFinished, after_all}
 use Rattle.stage_world.specs.Stages.{Stages}
@@ -12,6 +13,11 @@ use Rattle.stage_world.specs.Settling.{is_unfinished, telling_rounds, IsLoop, Is
 -- no announcement is on
 abbrev pub AreQuiet : Workload → Stages → Type 0
 AreQuiet load z = (d : ℕ) → d < load.dcs → (datacentre_at z d).announcement ≡ None
+
+-- a step that announces nothing
+abbrev pub IsCalm : Step → Type 0
+IsCalm (Announce d h t) = ⊥
+IsCalm step = Unit {0}
 
 -- how many passes of telling there are at most: two for each record that a log may get, and four
 abbrev pub most_passes : Workload → ℕ
@@ -35,3 +41,7 @@ pub record EndsSettling (load : Workload) (z : Stages) : Type 0 where
 pub record IsFinishedBy (w : World) (z : Stages) (steps : List Step) : Type 0 where
   pub can : CanAllHappen w (events_of w.workload z steps)
   pub finished : IsFinished (after_all w (events_of w.workload z steps))
+
+-- a number of passes that no loop of settling comes to
+abbrev pub ample : ℕ
+ample = 524288

@@ -9,6 +9,6 @@
 mod laws;
 
 pub use laws::{
-    answering_ends, rounds_settle_a_datacentre, settled_worlds_are_finished, settling_ends,
-    telling_ends,
+    ample_passes_are_enough, answering_ends, calm_scripts_stay_quiet, rounds_settle_a_datacentre,
+    settled_worlds_are_finished, settling_ends, telling_ends,
 };

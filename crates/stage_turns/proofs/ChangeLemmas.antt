@@ -1,5 +1,5 @@
 -- Which turns change a datacentre, epoch lists apart.
-use Rattle.std.proofs.Common.{◌≡◌, ◌≢◌, ◌↔◌, ℕ, zero, suc, ◌+◌, ◌-◌, ◌%◌, ◌<◌, ◌≤◌, ◌&&◌, ◌||◌, max, Bool, true, false, cond, not, nat_lt, List, [], ◌∷◌, ◌++◌, length, map, set, get_or, fold, refl, ap, ap₂, sym, ◌∙◌, subst, inl, inr, arith, Option, Some, None, is_some}
+use Rattle.std.proofs.Common.{◌≡◌, ◌≢◌, ◌↔◌, ℕ, zero, suc, ◌+◌, ◌-◌, ◌%◌, ◌<◌, ◌≤◌, ◌||◌, max, Bool, true, false, not, nat_lt, List, [], ◌∷◌, ◌++◌, length, map, set, get_or, fold, refl, ap, ap₂, sym, ◌∙◌, subst, inl, inr, arith, Option, Some, None}
 use Rattle.std.specs.Bool.{IsTrue}
 use Rattle.std.specs.Option.{option_map_or}
 use Rattle.std.proofs.Math.ListN.{get_or-map}
@@ -22,7 +22,7 @@ use Rattle.token_queue.specs.Drain.{Drained, all_deferred, drain_by_at_most, wit
 use Rattle.token_queue.specs.Items.{first_out, is_ready, record_from}
 use Rattle.token_queue.specs.Queues.{QueueState, TokenState, dealt, outbox_for, stamped_queue, stamped_token, tokenless, without_outbox}
 use Rattle.toid_filter.specs.Filters.{FilterState, filter_at, no_filter}
-use Rattle.stage_world.specs.Stages.{Datacentre, Session, batcher_at, maintainer_at, no_epochs, no_maintainer, no_queue, queue_at, slot_of}
+use Rattle.stage_world.specs.Stages.{Datacentre, batcher_at, maintainer_at, no_epochs, no_maintainer, no_queue, queue_at, slot_of}
 use Rattle.stage_world.specs.Turns.{all_acknowledged, drained, drained_items, flushed, passed_on, placed_from, stamped, taken_by, token_moved}
 use Rattle.stage_world.specs.MoreTurns.{counts_after, learnable, learnt_more, learnt_row, received}
 use Rattle.stage_world.specs.Idle.{TellsApart, TellsChange, apart_from_epochs, maintainer_apart, pair_apart, queue_apart}

@@ -3,15 +3,14 @@ use Rattle.std.proofs.Common.{◌≡◌, ◌⊎◌, ℕ, zero, suc, ◌+◌, ◌
 use Rattle.std.specs.List.{All, Contains, find, flat_map, slice_get}
 use Rattle.std.specs.Option.{option_map_or, unwrap_or}
 use Rattle.std.proofs.Math.Nat.{mod-lt}
-use Rattle.std.proofs.lemmas.Bool.{cases_lt, cond_both, eq-eqb, ne_eqb}
+use Rattle.std.proofs.lemmas.Bool.{cases_lt, eq-eqb, ne_eqb}
 use Rattle.std.proofs.lemmas.Bool.Decides.{nat_tests}
 use Rattle.std.proofs.lemmas.List.Elements.{All-contains, All-get_or, Contains-append_cases, Contains-append_left, Contains-append_right}
 use Rattle.std.proofs.lemmas.List.Sums.{sum_by-cons}
 use Rattle.std.proofs.lemmas.Option.{same_Some, slice_get-get_or}
 use Rattle.causal_deps.specs.declared.record.Record.{Record}
 use Rattle.causal_deps.specs.Logs.{record_at}
-use Rattle.abstract_log.specs.declared.answer.Found.{Found}
-use Rattle.abstract_log.specs.declared.answer.Found.TheVariants.{Absent as AbsentKey, At}
+use Rattle.abstract_log.specs.declared.answer.Found.TheVariants.{Absent as AbsentKey}
 use Rattle.abstract_log.specs.declared.command.Command.{Command}
 use Rattle.abstract_log.specs.declared.world.World.{World}
 use Rattle.abstract_log.specs.Worlds.{log_of}
@@ -22,16 +21,14 @@ use Rattle.flstore_rounds.proofs.HeadLemmas.{head_filled}
 use Rattle.hyksos.specs.Sessions.{SessionState, HasFound, keys_of, next_command, next_keys, writes}
 use Rattle.hyksos.specs.Shelves.{covered_for}
 use Rattle.log_gc.specs.Floors.{Floored, pin_of}
-use Rattle.maintainer.specs.declared.slot.Slot.{Slot}
 use Rattle.maintainer.specs.Maintainers.{IsEntryOf, MaintainerState, plain, times, times_in, value_at}
 use Rattle.maintainer.proofs.CountLemmas.{value_at-log}
 use Rattle.maintainer.proofs.SlotLemmas.{value_at-filled}
 use Rattle.tag_indexer.specs.Indexers.{IndexerState}
 use Rattle.tag_indexer.specs.Rows.{home, newest_row}
-use Rattle.stage_world.specs.Stages.{Datacentre, IsFilledIn, filled, indexer_at, maintainer_at, no_epochs, no_indexer, vector_at, waiting_in}
-use Rattle.stage_world.specs.StandsFor.{IsAsFar, IsIndexedAt, IsPinned, StandsAt, gone_times, position_in}
+use Rattle.stage_world.specs.Stages.{Datacentre, IsFilledIn, filled, indexer_at, no_epochs, no_indexer, vector_at, waiting_in}
+use Rattle.stage_world.specs.StandsFor.{IsAsFar, IsIndexedAt, StandsAt, gone_times, position_in}
 use Rattle.stage_world.specs.MoreTurns.{home_of, record_kept}
-use Rattle.stage_world.specs.ClientTurns.{looked_up}
 use Rattle.stage_world.proofs.FilledLemmas.{All-flat_map, filled_within, no_record, one_at_most, times_in-flat_map}
 use Rattle.stage_world.proofs.LogLemmas.{record_at_below}
 use Rattle.stage_world.proofs.LookUps.{looked_up_is}

@@ -1,5 +1,5 @@
 -- Where stages stand for a log, a maintainer may collect; and what floor and collection leave is the stage world's turn.
-use Rattle.std.proofs.Common.{◌≡◌, ℕ, ◌+◌, ◌-◌, ◌<◌, ◌≤◌, min, max, true, false, ltb, nat_lt, List, [], ◌∷◌, ◌++◌, length, map, set, get_or, refl, ap, ap₂, sym, ◌∙◌, subst, inl, inr, arith}
+use Rattle.std.proofs.Common.{◌≡◌, ℕ, ◌-◌, ◌<◌, true, nat_lt, List, [], ◌∷◌, ◌++◌, length, map, set, get_or, refl, ap, ap₂, sym, subst, inl, inr, arith}
 use Rattle.std.specs.List.{All, fold}
 use Rattle.std.proofs.lemmas.Bool.{cases_lt, lt-ltb, le-ltb, false≢true}
 use Rattle.std.proofs.lemmas.List.{append-nil, length-append, set-get_or}
@@ -18,10 +18,10 @@ use Rattle.maintainer.specs.declared.slot.Slot.{Slot}
 use Rattle.maintainer.specs.Maintainers.{IsEntryOf, MaintainerState, collected, plain}
 use Rattle.stage_world.specs.Stages.{Datacentre, maintainer_at, no_indexer, no_maintainer}
 use Rattle.stage_world.specs.StandsFor.{StandsAt}
-use Rattle.stage_world.specs.MoreTurns.{collect_turn, collected_outcome, entries_to_go, floor_raised, place_of_entry}
-use Rattle.stage_world.specs.Idle.{TellsApart, TellsChange, apart_from_epochs}
+use Rattle.stage_world.specs.MoreTurns.{collect_turn, entries_to_go, floor_raised, place_of_entry}
+use Rattle.stage_world.specs.Idle.{TellsChange, apart_from_epochs}
 use Rattle.stage_turns.specs.Changing.{has_some}
-use Rattle.stage_turns.specs.Collecting.{AreHomes, IsKeyed, MayCollect, lid_at, to_go}
+use Rattle.stage_turns.specs.Collecting.{MayCollect, lid_at}
 use Rattle.stage_turns.proofs.ChangeLemmas.{tells_other, tells_same}
 
 -- a put has one tag

@@ -1,8 +1,8 @@
 -- What the collection floor rises to, which entries may go, and how they go.
-use Rattle.std.proofs.Common.{◌≡◌, ℕ, zero, suc, ◌+◌, ◌<◌, ◌≤◌, max, Bool, true, false, cond, ltb, leb, eqb, not, ◌&&◌, ◌||◌, List, [], ◌∷◌, length, map, get_or, take, length-take, Option, Some, None, is_some, IsSome, refl, ap, ap₂, sym, ◌∙◌, subst, inl, inr, arith}
+use Rattle.std.proofs.Common.{◌≡◌, ℕ, zero, suc, ◌<◌, ◌≤◌, max, Bool, true, false, cond, ltb, leb, eqb, not, ◌&&◌, ◌||◌, List, [], ◌∷◌, length, map, get_or, take, length-take, Option, Some, None, is_some, IsSome, refl, ap, ap₂, sym, ◌∙◌, subst, inl, inr, arith}
 use Rattle.std.specs.List.{All, AllPairs, find, fold, list_all}
 use Rattle.std.specs.Option.{unwrap_or}
-use Rattle.std.proofs.lemmas.Bool.{cases_lt, cases_eq, cond-true, cond-false, cond_both, le-leb, lt-leb, lt-ltb, le-ltb, leb-true, ne_eqb, eq-eqb, and_parts, and_right}
+use Rattle.std.proofs.lemmas.Bool.{cases_lt, cases_eq, cond-true, cond-false, cond_both, le-leb, lt-leb, lt-ltb, le-ltb, leb-true, ne_eqb, eq-eqb, and_parts}
 use Rattle.std.proofs.lemmas.List.{get_or_default, get_or-map, get_or-take, length-map}
 use Rattle.std.proofs.lemmas.List.Elements.{All-nil, All-cons, All-head, All-tail, All-filter, Contains-get_or}
 use Rattle.std.proofs.lemmas.List.Kept.{AllPairs-filter}
@@ -19,7 +19,7 @@ use Rattle.maintainer.specs.Maintainers.{AreRising, MaintainerState, collected, 
 use Rattle.maintainer.proofs.CountLemmas.{entry_counts, entry_shown}
 use Rattle.maintainer.proofs.StateLemmas.{collected_value}
 use Rattle.tag_indexer.specs.declared.post.Post.{Post}
-use Rattle.tag_indexer.specs.Indexers.{IndexerState, newest_found, found_lid}
+use Rattle.tag_indexer.specs.Indexers.{IndexerState, newest_found}
 use Rattle.tag_indexer.specs.Rows.{home, is_row_of, is_tagged, newest_row}
 use Rattle.stage_world.specs.MoreTurns.{place_of_entry}
 use Rattle.stage_world.specs.Stages.{no_indexer}

@@ -33,31 +33,34 @@ pub record AreParted (es : List (Slot Record)) (low a : ℕ) : Type 0 where
   pub below : (k : ℕ) (d : Slot Record) → k < a → (get_or es k d).lid < low
   pub above : (k : ℕ) (d : Slot Record) → a ≤ k → k < length es → low ≤ (get_or es k d).lid
 
-parted_tail : (x : Slot Record) (xs : List (Slot Record)) (low a : ℕ) → AreParted (x ∷ xs) low a → AreParted xs low (a - 1)
-parted_tail x xs low a h = record {
-  few = omega (arith, h.few);
-  below = λ k d lt. h.below (suc k) d (omega arith);
-  above = λ k d from lt. h.above (suc k) d (omega arith) (omega arith);
+parted_tail : (x : Slot Record) (xs : List (Slot Record)) (low a b : ℕ) → a - 1 ≡ b → AreParted (x ∷ xs) low a → AreParted xs low b
+parted_tail x xs low a b less h = record {
+  few = omega (arith, h.few, less);
+  below = λ k d lt. h.below (suc k) d (omega (arith, less));
+  above = λ k d from lt. h.above (suc k) d (omega (arith, less)) (omega arith);
 }
 
 pub between_is : (es : List (Slot Record)) (low top a b : ℕ) → AreParted es low a → AreParted es top b → take (max b a - a) (drop a es) ≡ filter (is_between low top) es
 between_is [] low top zero b first last = take_none (max b 0 - 0)
   where
-    take_none : (n : ℕ) → take n [] ≡ ([] : List (Slot Record))
+    take_none : (n : ℕ) → take {A = Slot Record} n [] ≡ []
     take_none zero = refl
     take_none (suc n) = refl
 between_is [] low top (suc a) b first last = absurd (omega (arith, first.few))
 between_is (x ∷ xs) low top (suc a) b first last =
     let under : x.lid < low = first.below 0 x (omega arith) in
     ap (λ n. take n (drop a xs)) (omega arith)
-    ∙ between_is xs low top a (b - 1) (parted_tail x xs low (suc a) first) (parted_tail x xs top b last)
+    ∙ between_is xs low top a (b - 1) (parted_tail x xs low (suc a) a (omega arith) first) (parted_tail x xs top b (b - 1) refl last)
     ∙ sym (cond_both (is_between low top x) (x ∷ filter (is_between low top) xs) (filter (is_between low top) xs) (λ ys. ys ≡ filter (is_between low top) xs)
     (λ is. let over : low ≤ x.lid = leb-true low x.lid (and_parts (leb low x.lid) (ltb x.lid top) is).0 in absurd (omega arith)) (λ _. refl))
 between_is (x ∷ xs) low top zero zero first last = sym (none_between (x ∷ xs) low top (λ k d lt. last.above k d (omega arith) lt))
 between_is (x ∷ xs) low top zero (suc b) first last =
     let over : low ≤ x.lid = first.above 0 x (omega arith) (omega arith) in
     let under : x.lid < top = last.below 0 x (omega arith) in
-    ap (λ ys. x ∷ ys) (between_is xs low top zero b (parted_tail x xs low zero first) (parted_tail x xs top (suc b) last))
+    let one : max (suc b) 0 - 0 ≡ suc b = omega arith in
+    let two : b ≡ max b 0 - 0 = omega arith in
+    ap (λ n. take n (x ∷ xs)) one ∙ ap (λ n. x ∷ take n xs) two
+    ∙ ap (λ ys. x ∷ ys) (between_is xs low top zero b (parted_tail x xs low zero zero (omega arith) first) (parted_tail x xs top (suc b) b (omega arith) last))
     ∙ sym (cond-true (is_between low top x) (x ∷ filter (is_between low top) xs) (filter (is_between low top) xs) (and_from (leb low x.lid) (ltb x.lid top) (le-leb low x.lid over) (lt-ltb x.lid top under)))
 
 -- what is posted
@@ -79,12 +82,12 @@ made_at (x ∷ xs) e has = elim (Contains-cases x e xs has) [
   | inr rest ↦ Contains-tail x.lid e.lid (map (λ (y : Post). y.place.lid) (map row_made xs)) (made_at xs e rest)
 ]
 
--- nothing is between a position and itself
-none_at_all : (es : List (Slot Record)) (low : ℕ) → filter (is_between low low) es ≡ []
-none_at_all [] low = refl
-none_at_all (x ∷ xs) low = cond_both (is_between low low x) (x ∷ filter (is_between low low) xs) (filter (is_between low low) xs) (λ ys. ys ≡ [])
-    (λ is. let tests = and_parts (leb low x.lid) (ltb x.lid low) is in absurd (omega (arith, leb-true low x.lid tests.0, ltb-true x.lid low tests.1)))
-    (λ _. none_at_all xs low)
+-- nothing is between a position and one that is no higher
+pub none_past : (es : List (Slot Record)) (low top : ℕ) → top ≤ low → filter (is_between low top) es ≡ []
+none_past [] low top past = refl
+none_past (x ∷ xs) low top past = cond_both (is_between low top x) (x ∷ filter (is_between low top) xs) (filter (is_between low top) xs) (λ ys. ys ≡ [])
+    (λ is. let tests = and_parts (leb low x.lid) (ltb x.lid top) is in absurd (omega (arith, leb-true low x.lid tests.0, ltb-true x.lid top tests.1)))
+    (λ _. none_past xs low top past)
 
 module _ (x : MaintainerState Record) (m : ℕ) (i : IndexerState) (may : MayPost x m i) where
   abbrev low : ℕ
@@ -126,7 +129,7 @@ module _ (x : MaintainerState Record) (m : ℕ) (i : IndexerState) (may : MayPos
     where
       nothing : posted i x.epochs m low (rows low) ≡ record i { pair = record i.pair { epochs = longer i.pair.epochs x.epochs } }
       nothing =
-          ap (λ (es : List (Slot Record)). posted i x.epochs m low (map row_made es)) (none_at_all x.entries low)
+          ap (λ (es : List (Slot Record)). posted i x.epochs m low (map row_made es)) (none_past x.entries low low (omega arith))
           ∙ ap (λ (ms : List ℕ). record i { pair = record { epochs = longer i.pair.epochs x.epochs; marks = ms } })
           (ap (λ (n : ℕ). set i.pair.marks m n) (omega arith) ∙ set-get_or i.pair.marks m 0)
 
@@ -134,3 +137,28 @@ module _ (x : MaintainerState Record) (m : ℕ) (i : IndexerState) (may : MayPos
           ≡ cond b (record i { pair = record i.pair { epochs = longer i.pair.epochs x.epochs } }) (posted i x.epochs m (mark_of x) (rows (mark_of x)))
       by_gone true = nothing
       by_gone false = refl
+
+  -- the same of what was read
+
+  rows_are : (start end : ℕ) (entries : List (Slot Record)) (read : List Post) → start ≡ low → end ≡ post_mark x start → entries ≡ x.entries → read ≡ map row_made (filter (is_between start end) entries)
+      → (end ≡ post_mark x low) × (read ≡ rows (post_mark x low))
+  rows_are start end entries read is_start is_end are reads =
+      let ends : end ≡ post_mark x low = is_end ∙ ap (post_mark x) is_start in (
+        ends,
+        reads ∙ ap (λ (es : List (Slot Record)). map row_made (filter (is_between start end) es)) are ∙ ap (λ (n : ℕ). map row_made (filter (is_between n end) x.entries)) is_start
+        ∙ ap (λ (n : ℕ). map row_made (filter (is_between low n) x.entries)) ends,
+      )
+
+  pub read_own : (start end : ℕ) (entries : List (Slot Record)) (read : List Post) (epochs : EpochList) → start ≡ low → 1 ≤ start → end ≡ post_mark x start → entries ≡ x.entries → AreRising x.entries
+      → read ≡ map row_made (filter (is_between start end) entries) → epochs ≡ x.epochs → AreOwnRows (longer i.pair.epochs epochs) m low end read
+  read_own start end entries read epochs is_start first is_end are rise reads known =
+      let both = rows_are start end entries read is_start is_end are reads in
+      subst (λ (rs : List Post). AreOwnRows (longer i.pair.epochs epochs) m low end rs) (sym both.1)
+      (subst (λ (n : ℕ). AreOwnRows (longer i.pair.epochs epochs) m low n (rows (post_mark x low))) (sym both.0)
+      (subst (λ (es : EpochList). AreOwnRows (longer i.pair.epochs es) m low (post_mark x low) (rows (post_mark x low))) (sym known) (rows_own rise (omega (arith, first, is_start)))))
+
+  pub read_posted : (start end : ℕ) (entries : List (Slot Record)) (read : List Post) (epochs : EpochList) → start ≡ low → end ≡ post_mark x start → entries ≡ x.entries
+      → read ≡ map row_made (filter (is_between start end) entries) → epochs ≡ x.epochs → posted i epochs m end read ≡ posted_to i x m
+  read_posted start end entries read epochs is_start is_end are reads known =
+      let both = rows_are start end entries read is_start is_end are reads in
+      ap (λ (es : EpochList). posted i es m end read) known ∙ ap (λ (n : ℕ). posted i x.epochs m n read) both.0 ∙ ap (λ (rs : List Post). posted i x.epochs m (post_mark x low) rs) both.1 ∙ posted_is

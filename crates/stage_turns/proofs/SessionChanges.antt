@@ -1,5 +1,5 @@
 -- Which turns of a session change it.
-use Rattle.std.proofs.Common.{◌≡◌, ◌≢◌, ◌⊎◌, ℕ, ◌+◌, ◌<◌, ◌||◌, Bool, true, false, cond, not, ltb, List, [], ◌∷◌, ◌++◌, length, map, set, get_or, refl, ap, sym, ◌∙◌, subst, inl, inr, arith, Option, Some, None, is_some, slice_get}
+use Rattle.std.proofs.Common.{◌≡◌, ◌≢◌, ℕ, ◌<◌, ◌||◌, Bool, true, false, cond, not, ltb, List, [], ◌∷◌, ◌++◌, length, map, set, get_or, refl, ap, sym, ◌∙◌, arith, Option, Some, None, is_some, slice_get}
 use Rattle.std.specs.Option.{option_and_then, option_map_or}
 use Rattle.std.proofs.lemmas.Bool.{cond_both, false≢true}
 use Rattle.std.proofs.lemmas.List.{get_or-set_same, length-append, set-get_or}
@@ -13,8 +13,7 @@ use Rattle.abstract_log.specs.declared.command.Command.{Command}
 use Rattle.abstract_log.specs.declared.command.Command.TheVariants.{Append, Put, Get, Tx, Read as ReadCommand, Last}
 use Rattle.abstract_log.specs.Answers.{found_at, read_in}
 use Rattle.abstract_log.specs.Commands.{draft_of, is_write}
-use Rattle.hyksos.specs.declared.next.Next.{Next}
-use Rattle.hyksos.specs.declared.next.Next.TheVariants.{Replied, Key, Waiting, Below, Behind, Finished}
+use Rattle.hyksos.specs.declared.next.Next.TheVariants.{Replied, Key, Below}
 use Rattle.hyksos.specs.Sessions.{SessionState, begun, is_look, next_command, next_index, reading, replied, writes}
 use Rattle.hyksos.specs.Shelves.{ShelfState, covered_for, last_at, with_pin}
 use Rattle.hyksos.specs.Turns.{Taken, behind, found_at_pin, look, reply, rest, turn_of, turn_with, turned, wait}

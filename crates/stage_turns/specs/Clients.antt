@@ -1,5 +1,5 @@
 -- The turn of a session, cut to the stages that it needs.
-use Rattle.std.specs.Prelude.{◌≡◌, ℕ, ◌<◌, ◌≤◌, ◌%◌, ◌||◌, Bool, true, false, not, if◌then◌else◌, is_some, List, [], ◌∷◌, ◌++◌, length, Option, Some, None, slice_set}
+use Rattle.std.specs.Prelude.{◌≡◌, ℕ, ◌<◌, ◌≤◌, ◌%◌, ◌||◌, Bool, true, false, not, if◌then◌else◌, is_some, List, [], ◌∷◌, ◌++◌, length, Option, slice_set}
 use Rattle.std.specs.Option.{option_map_or}
 use Rattle.causal_deps.specs.declared.record.Record.{Record}
 use Rattle.causal_deps.specs.declared.record.Draft.{Draft}
@@ -9,7 +9,7 @@ use Rattle.abstract_log.specs.declared.event.Event.{Event}
 use Rattle.abstract_log.specs.declared.event.Event.TheVariants.{Submit, Reply}
 use Rattle.abstract_log.specs.declared.script.Outcome.{Outcome}
 use Rattle.abstract_log.specs.declared.script.Outcome.TheVariants.{Behind, Below, Finished, Key, Replied, Submitted, Unacknowledged, Waiting}
-use Rattle.flstore_rounds.specs.Heads.{Pair, head}
+use Rattle.flstore_rounds.specs.Heads.{Pair}
 use Rattle.hyksos.specs.declared.next.Next.{Next}
 use Rattle.hyksos.specs.declared.next.Next.TheVariants.{Submitted as SubmittedNext, Replied as RepliedNext, Key as KeyNext, Waiting as WaitingNext, Unacknowledged as UnacknowledgedNext, Below as BelowNext, Behind as BehindNext, Finished as FinishedNext}
 use Rattle.hyksos.specs.declared.next.Turned.{Turned}

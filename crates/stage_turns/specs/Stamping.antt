@@ -1,8 +1,6 @@
 -- What a stamping leaves of the stages that it is lent, what it answers, and its events.
-use Rattle.std.specs.Prelude.{◌≡◌, ◌≢◌, ℕ, ◌+◌, ◌^◌, ◌<◌, ◌==◌, ◌&&◌, max, ⊤, false, if◌then◌else◌, List, [], ◌++◌, length, map, All, AllPairs, sum_by}
+use Rattle.std.specs.Prelude.{◌≡◌, ◌≢◌, ℕ, ◌+◌, ◌^◌, ◌<◌, ◌==◌, ◌&&◌, ⊤, if◌then◌else◌, List, [], ◌++◌, length, map, All, AllPairs, sum_by}
 use Rattle.std.specs.Option.{option_map_or}
-use Rattle.causal_deps.specs.Counts.{raised}
-use Rattle.causal_deps.specs.declared.record.Place.{Place}
 use Rattle.causal_deps.specs.declared.record.Item.{Item}
 use Rattle.causal_deps.specs.declared.record.Item.TheVariants.{Local, External}
 use Rattle.abstract_log.specs.declared.event.Event.{Event}

@@ -14,9 +14,8 @@ use Rattle.abstract_log.specs.declared.script.Sizes.{Sizes}
 use Rattle.stage_world.specs.Stages.{Datacentre, Stages, sizes_of}
 use Rattle.stage_world.specs.Whole.{datacentre_at, nowhere_at}
 use Rattle.stage_world.specs.MoreTurns.{message_of, same_counts}
-use Rattle.stage_world.specs.Settling.{Errand, below, errands, has_unanswered}
+use Rattle.stage_world.specs.Settling.{Errand, below, errands, has_unanswered, is_unanswered}
 use Rattle.datacentre.specs.Seen.{DatacentreState, StandsForALog}
-use Rattle.stage_turns.specs.Clients.{is_unanswered}
 use Rattle.world.specs.Settled.{AreKnown, IsKnown, errands_from}
 use Rattle.world.specs.Showing.{states_from}
 use Rattle.world.specs.Taking.{HasTaken, IsTaken, StagesState, Taken, stages_after}

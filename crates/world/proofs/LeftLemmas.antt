@@ -23,13 +23,16 @@ one_left x xs all now left next l is new here leads more rest =
 pub all_left : (now all : List DatacentreState) (left : List LeftAt) → now ≡ [] → ((more : List LeftAt) → AllZip IsLeftBy now more → AllZip IsLeftBy all (left ++ more)) → AllZip IsLeftBy all left
 all_left now all left none leads = subst (AllZip IsLeftBy all) (append-nil left) (leads [] (subst (λ ys. AllZip IsLeftBy ys []) (sym none) tt))
 
+zero-plus : (n : ℕ) → 0 + n ≡ n
+zero-plus n = omega arith
+
 left_from : (w : World) (n : ℕ) (zs : List Datacentre) (left : List LeftAt) → AllZip IsLeftBy (states_from n zs) left → ((k : ℕ) → k < length zs → StandsAt w (k + n) (get_or zs k nowhere_at))
     → left ≡ map (left_at w) (range_with_len n (length zs))
 left_from w n [] [] all stands = refl
 left_from w n [] (l ∷ ls) all stands = absurd all
 left_from w n (z ∷ zs) [] all stands = absurd all
 left_from w n (z ∷ zs) (l ∷ ls) all stands =
-    ap₂ (λ (x : LeftAt) (xs : List LeftAt). x ∷ xs) (all.0 w (stands 0 (omega arith)))
+    ap₂ (λ (x : LeftAt) (xs : List LeftAt). x ∷ xs) (all.0 w (subst (λ d. StandsAt w d z) (zero-plus n) (stands 0 (omega arith))))
     (left_from w (n + 1) zs ls all.1 (λ k low. subst (λ d. StandsAt w d (get_or zs k nowhere_at)) (omega arith) (stands (suc k) (omega (arith, low)))))
 
 pub left_of_all : (w : World) (z : Stages) (sites : Sites) (left : List LeftAt) → Shows w.workload.dcs z sites → StandsFor w z → AllZip IsLeftBy sites.datacentres left → left ≡ left_of w

@@ -1,4 +1,3 @@
-pub mod FinishedWhen
 pub mod CallLemmas
 pub mod LinkLemmas
 pub mod OpeningLemmas
@@ -8,6 +7,7 @@ pub mod TakingLemmas
 pub mod MovingLemmas
 pub mod IdleLemmas
 pub mod RoundLemmas
+pub mod QuietLemmas
 pub mod KnownLemmas
 pub mod RoundIs
 pub mod SettlingLemmas

@@ -29,11 +29,11 @@ use Rattle.stage_world.specs.Schedules.{IsStep, place_of_step, step_of, turn_of}
 use Rattle.stage_world.specs.Whole.{IsTold, datacentre_at, link_at}
 use Rattle.stage_turns.specs.declared.done.TurnDone.{TurnDone}
 use Rattle.datacentre.specs.Seen.{StandsForALog}
-use Rattle.datacentre.specs.Turning.{IsBuilt, IsBuiltCommand}
+use Rattle.datacentre.specs.Turning.{IsBuilt}
 use Rattle.stage_turns.proofs.ToldLemmas.{links_spelled}
 use Rattle.world.specs.declared.sites.Sites.{Sites}
 use Rattle.world.specs.Links.{AreThere, copy_outcome, lose_outcome, outcome_of_copy, packets_at, with_packets}
-use Rattle.world.specs.Showing.{AreBuilt, HasMoved, HasSent, HasTurned, IsBuiltStep, IsSeenAt, MayReceiveAt, MaySendAt, MayStep, MayTurnAt, Shows, packets_of, uses_link}
+use Rattle.world.specs.Showing.{HasMoved, HasSent, HasTurned, IsBuiltStep, IsSeenAt, MayReceiveAt, MaySendAt, MayStep, MayTurnAt, Shows, packets_of, uses_link}
 use Rattle.world.proofs.LinkLemmas.{has_lost-map, message_at-map, packets_at_is, put_last-map, with_same, without-map, without_none}
 use Rattle.world.proofs.SiteLemmas.{datacentres_there, rows_there, shows_link, shows_turn, state_there}
 
@@ -105,32 +105,30 @@ place_within load (AddQueue d) homes good = good
 place_within load (AddSender d) homes good = good
 place_within load (AddReceiver d) homes good = good
 
--- the commands of the sessions there are those of the workload
-built_here : (w : World) (d : ℕ) (z : Datacentre) (step : Step) → AreBuilt w.workload → StandsAt w d z → IsBuiltStep step → uses_link step ≡ false → IsBuilt z step
-built_here w d z (Client s) commands h built own =
-    All-weaker (IsAsFar w.workload w.sessions (log_of w d) d z.floor) (λ (x : Session). All IsBuiltCommand x.commands)
-    (λ x far. subst (All IsBuiltCommand) (sym far.commands) (commands x.number _ far.home.there)) z.sessions h.sessions
-built_here w d z (Flush _ b) commands h built own = tt
-built_here w d z (Pass _ f q) commands h built own = tt
-built_here w d z (Stamp _ q) commands h built own = tt
-built_here w d z (Token _) commands h built own = tt
-built_here w d z (Place _ q m) commands h built own = tt
-built_here w d z (Gossip _ m k) commands h built own = tt
-built_here w d z (Post _ m i) commands h built own = built
-built_here w d z (Learn _) commands h built own = tt
-built_here w d z (Send _ k e) commands h built own = absurd (cc)
-built_here w d z (Deliver _ e k r) commands h built own = absurd (cc)
-built_here w d z (Lose _ e k) commands h built own = absurd (cc)
-built_here w d z (Copy _ e k) commands h built own = absurd (cc)
-built_here w d z (Floor _ p) commands h built own = built
-built_here w d z (Collect _ m) commands h built own = built
-built_here w d z (Announce _ g t) commands h built own = built
-built_here w d z (Mark _) commands h built own = built
-built_here w d z (AddMaintainer _ p) commands h built own = built
-built_here w d z (AddBatcher _) commands h built own = built
-built_here w d z (AddQueue _) commands h built own = built
-built_here w d z (AddSender _) commands h built own = built
-built_here w d z (AddReceiver _) commands h built own = built
+-- a built step of a stage of one datacentre is one that its turn takes
+built_here : (z : Datacentre) (step : Step) → IsBuiltStep step → uses_link step ≡ false → IsBuilt z step
+built_here z (Client s) built own = built
+built_here z (Flush _ b) built own = built
+built_here z (Pass _ f q) built own = built
+built_here z (Stamp _ q) built own = built
+built_here z (Token _) built own = built
+built_here z (Place _ q m) built own = built
+built_here z (Gossip _ m k) built own = built
+built_here z (Post _ m i) built own = built
+built_here z (Learn _) built own = built
+built_here z (Send _ k e) built own = absurd (cc)
+built_here z (Deliver _ e k r) built own = absurd (cc)
+built_here z (Lose _ e k) built own = absurd (cc)
+built_here z (Copy _ e k) built own = absurd (cc)
+built_here z (Floor _ p) built own = built
+built_here z (Collect _ m) built own = built
+built_here z (Announce _ g t) built own = built
+built_here z (Mark _) built own = built
+built_here z (AddMaintainer _ p) built own = built
+built_here z (AddBatcher _) built own = built
+built_here z (AddQueue _) built own = built
+built_here z (AddSender _) built own = built
+built_here z (AddReceiver _) built own = built
 
 module _ (load : Workload) (step : Step) (z : Stages) (old : Sites) (may : MayStep load step z old) where
   dcs_same : may.world.workload.dcs ≡ load.dcs
@@ -157,7 +155,7 @@ module _ (load : Workload) (step : Step) (z : Stages) (old : Sites) (may : MaySt
         stages = datacentre_at z d;
         seen = seen_at load.dcs z old d may.shown within;
         log = log_there d within;
-        built = built_here may.world d (datacentre_at z d) step (subst AreBuilt (sym may.same) may.commands) (stands_there d within) may.built own;
+        built = built_here (datacentre_at z d) step may.built own;
       }
 
 turned_at : (dcs : ℕ) (z : Stages) (old new : Sites) (d : ℕ) (turned : Turned) (done : TurnDone) → Shows dcs z old → new.links ≡ old.links → HasTurned d (datacentre_at z d) turned old.datacentres new.datacentres done

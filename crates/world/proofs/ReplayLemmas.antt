@@ -1,8 +1,6 @@
 -- A script from its first step to its end.
-use Rattle.std.specs.Prelude.{not, ◌||◌}
-use Rattle.std.proofs.Common.{◌≡◌, Bool, true, false, ℕ, zero, suc, ◌+◌, ◌<◌, ◌≤◌, List, [], ◌∷◌, ◌++◌, length, take, get_or, refl, ap, sym, ◌∙◌, subst, arith, add-one, Some}
-use Rattle.std.specs.List.{All, list_all, list_any}
-use Rattle.std.proofs.lemmas.List.Folds.{list_all_at, list_any_at}
+use Rattle.std.proofs.Common.{◌≡◌, false, ℕ, ◌+◌, ◌<◌, ◌≤◌, List, [], ◌∷◌, ◌++◌, length, take, get_or, refl, ap, sym, ◌∙◌, subst, add-one, append_assoc}
+use Rattle.std.specs.List.{All}
 use Rattle.std.proofs.lemmas.List.Elements.{All-get_or}
 use Rattle.std.proofs.lemmas.List.{map_push}
 use Rattle.std.proofs.Math.Seq.{take-suc}
@@ -11,66 +9,61 @@ use Rattle.abstract_log.specs.declared.script.Step.{Step}
 use Rattle.abstract_log.specs.declared.command.Workload.{Workload}
 use Rattle.abstract_log.specs.declared.event.Event.{Event}
 use Rattle.abstract_log.specs.declared.world.World.{World}
-use Rattle.abstract_log.specs.Runs.{IsFinished, world_of}
+use Rattle.abstract_log.specs.Worlds.{start}
+use Rattle.abstract_log.specs.Runs.{IsFinished, after_all, world_of}
+use Rattle.log_laws.proofs.Runs.{after_all-append}
+use Rattle.log_laws.specs.Lawful.{IsLawful}
 use Rattle.log_laws.proofs.LimitedRuns.{laws_of_run, workload_is}
-use Rattle.stage_world.specs.Stages.{Datacentre, Stages}
-use Rattle.stage_world.specs.Schedules.{IsStep}
-use Rattle.stage_world.specs.Whole.{datacentre_at, nowhere_at}
-use Rattle.stage_world.proofs.AllTurns.{schedule}
-use Rattle.stage_world.specs.MoreTurns.{same_counts}
+use Rattle.stage_world.specs.Stages.{Stages}
 use Rattle.stage_world.specs.Opening.{opening}
-use Rattle.stage_world.specs.Schedules.{after_steps}
-use Rattle.stage_world.specs.Settling.{IsSettlingUpTo, has_unanswered, is_agreed, is_answering, is_unfinished}
-use Rattle.stage_turns.proofs.LearningLemmas.{same_decided}
+use Rattle.stage_world.specs.Schedules.{IsStep, after_steps, events_of, step_of}
+use Rattle.stage_world.specs.Settling.{IsSettling}
+use Rattle.stage_world.specs.Whole.{StandsFor}
+use Rattle.stage_world.proofs.AllTurns.{schedule}
+use Rattle.settling_laws.specs.Ending.{IsFinishedBy}
 use Rattle.world.specs.declared.stages.Played.{Played}
 use Rattle.world.specs.Replays.{IsReplayed}
 use Rattle.world.specs.Settled.{HasPlayed}
 use Rattle.world.specs.Showing.{IsBuiltStep}
 use Rattle.world.specs.Taking.{HasTaken, IsPlayed, StagesState, Taken, events_after, settled as settled_steps, stages_after, steps_of, taken_of}
-use Rattle.world.proofs.FinishedWhen.{settled}
 use Rattle.world.proofs.RoundLemmas.{take_all}
+use Rattle.world.proofs.SettledLemmas.{steps_played}
 
--- what a test says of all, it says of each
-none_at : {A : Type 0} (p : A → Bool) (xs : List A) (i : ℕ) (d : A) (b : Bool) → p (get_or xs i d) ≡ b → i < length xs → list_any p xs ≡ false → p (get_or xs i d) ≡ false
-none_at p xs i d false is within none = is
-none_at p xs i d true is within none = absurd (let some : list_any p xs ≡ true = list_any_at p xs i d within is in cc)
+events_append : (load : Workload) (z : Stages) (xs ys : List Step) → events_of load z (xs ++ ys) ≡ events_of load z xs ++ events_of load (after_steps load z xs) ys
+events_append load z [] ys = refl
+events_append load z (x ∷ xs) ys =
+    ap (λ es. (step_of load z x).events ++ es) (events_append load (step_of load z x).after xs ys)
+    ∙ sym (append_assoc (step_of load z x).events (events_of load (step_of load z x).after xs) (events_of load (after_steps load (step_of load z x).after xs) ys))
 
-all_at : {A : Type 0} (p : A → Bool) (xs : List A) (i : ℕ) (d : A) (b : Bool) → p (get_or xs i d) ≡ b → i < length xs → list_all p xs ≡ true → p (get_or xs i d) ≡ true
-all_at p xs i d true is within all = is
-all_at p xs i d false is within all = absurd (let fails : list_all p xs ≡ false = list_all_at p xs i d within is in cc)
+-- what the laws of settling say of all turns of settling
+abbrev Finishes : Type 0
+Finishes = (w : World) (z : Stages) (steps : List Step) → IsLawful w → StandsFor w z → IsSettling w.workload z steps → IsFinishedBy w z steps
 
-done_parts : (a b : Bool) → (a || not b) ≡ false → (a ≡ false) × (b ≡ true)
-done_parts false true is = (refl, refl)
-done_parts false false is = absurd (cc)
-done_parts true b is = absurd (cc)
-
-pub finished_here : (script : Script) (ts : List Taken) (s : StagesState) → HasTaken script ts s → is_unfinished (stages_after script ts) ≡ false → IsFinished (world_of script.workload (events_after script ts))
-finished_here script ts s h done =
-    let run = schedule script (steps_of ts) h.fits h.steps in
-    let w : World = world_of script.workload (events_after script ts) in
+pub finished_after : (script : Script) (ts : List Taken) (s : StagesState) (steps : List Step) → Finishes → HasTaken script ts s → IsSettling script.workload (stages_after script ts) steps
+    → IsFinished (world_of script.workload (events_after script (ts ++ settled_steps steps)))
+finished_after script ts s steps law h settling =
+    let load : Workload = script.workload in
     let z : Stages = stages_after script ts in
-    let zs : List Datacentre = z.datacentres in
-    let load : w.workload ≡ script.workload = workload_is script.workload (events_after script ts) in
-    let size : length zs ≡ w.workload.dcs = run.1.size in
-    let parts = done_parts (is_answering z) (is_agreed z) done in
-    let as_many : Datacentre → Datacentre → Bool = λ x y. same_counts x.token.counts y.token.counts in
-    let counts : (d e : ℕ) → d < w.workload.dcs → e < w.workload.dcs → (datacentre_at z d).token.counts ≡ (datacentre_at z e).token.counts =
-    λ d e here there.
-    let row : list_all (as_many (datacentre_at z d)) zs ≡ true = all_at (λ x. list_all (as_many x) zs) zs d nowhere_at _ refl (omega (arith, here, size)) parts.1 in
-    (same_decided (datacentre_at z d).token.counts (datacentre_at z e).token.counts).0 (all_at (as_many (datacentre_at z d)) zs e nowhere_at _ refl (omega (arith, there, size)) row) in
-    settled w z (laws_of_run script.workload (events_after script ts) h.fits.limits run.0) run.1
-    (λ d within. none_at has_unanswered zs d nowhere_at _ refl (omega (arith, within, size)) parts.0)
-    counts
+    let run = schedule script (steps_of ts) h.fits h.steps in
+    let w : World = world_of load (events_after script ts) in
+    let same : w.workload ≡ load = workload_is load (events_after script ts) in
+    let lawful : IsLawful w = laws_of_run load (events_after script ts) h.fits.limits run.0 in
+    let by : IsFinishedBy w z steps = law w z steps lawful run.1 (subst (λ l. IsSettling l z steps) (sym same) settling) in
+    let events : events_after script (ts ++ settled_steps steps) ≡ events_after script ts ++ events_of load z steps =
+    ap (events_of load (opening script)) (steps_played ts steps) ∙ events_append load (opening script) (steps_of ts) steps in
+    let world : world_of load (events_after script (ts ++ settled_steps steps)) ≡ after_all w (events_of load z steps) =
+    ap (world_of load) events ∙ after_all-append (start load) (events_after script ts) (events_of load z steps) in
+    subst IsFinished (sym world) (subst (λ l. IsFinished (after_all w (events_of l z steps))) same by.finished)
 
 own_steps : (steps : List Step) → steps_of (taken_of steps) ≡ steps
 own_steps [] = refl
 own_steps (x ∷ steps) = ap (λ xs. x ∷ xs) (own_steps steps)
 
-pub replayed : (script : Script) (s : StagesState) (result : Played) → (settles : HasPlayed (IsSettlingUpTo 524288) script (taken_of script.steps) s)
+pub replayed : (script : Script) (s : StagesState) (result : Played) → (settles : HasPlayed IsSettling script (taken_of script.steps) s)
     → IsFinished (world_of script.workload (events_after script (taken_of script.steps ++ settled_steps settles.steps))) → IsPlayed script (taken_of script.steps ++ settled_steps settles.steps) result → IsReplayed script result
 replayed script s result settles finished is = record {
   settling = settles.steps;
-  settles = subst (λ xs. IsSettlingUpTo 524288 script.workload (after_steps script.workload (opening script) xs) settles.steps) (own_steps script.steps) settles.are;
+  settles = subst (λ xs. IsSettling script.workload (after_steps script.workload (opening script) xs) settles.steps) (own_steps script.steps) settles.are;
   workload = is.workload;
   events = is.events;
   lines = is.lines;

@@ -8,17 +8,25 @@ use Rattle.std.proofs.Math.Seq.{take-suc}
 use Rattle.abstract_log.specs.declared.command.Workload.{Workload}
 use Rattle.abstract_log.specs.declared.script.Script.{Script}
 use Rattle.abstract_log.specs.declared.script.Step.{Step}
+use Rattle.abstract_log.specs.declared.world.World.{World}
+use Rattle.abstract_log.specs.Fits.{FitsLimits}
+use Rattle.abstract_log.specs.Runs.{world_of}
+use Rattle.log_laws.specs.Lawful.{IsLawful}
+use Rattle.log_laws.proofs.LimitedRuns.{laws_of_run, workload_is}
+use Rattle.settling_laws.specs.Ending.{AreQuiet}
 use Rattle.stage_world.specs.Stages.{Stages}
 use Rattle.stage_world.specs.Opening.{opening}
 use Rattle.abstract_log.specs.declared.script.Step.TheVariants.{Deliver, Send}
 use Rattle.stage_world.specs.LinkTurns.{link_length}
-use Rattle.stage_world.specs.Whole.{datacentre_at}
+use Rattle.stage_world.specs.Whole.{StandsFor, datacentre_at}
 use Rattle.stage_world.specs.Schedules.{AreTwo, IsStep, after_steps, step_of}
-use Rattle.stage_world.specs.Settling.{Errand, IsSettlingUpTo, after_passes, all_rounds, answering_rounds, below, errand_turns, errands, exchange, exchange_turns, has_unanswered, is_answering, is_due, is_unfinished, rounds, sent_and_delivered, telling_rounds, turns_of_passes}
+use Rattle.stage_world.specs.Settling.{Errand, IsSettling, IsSettlingUpTo, after_passes, all_rounds, answering_rounds, below, errand_turns, errands, exchange, exchange_turns, has_unanswered, is_answering, is_due, is_unfinished, rounds, sent_and_delivered, telling_rounds, turns_of_passes}
 use Rattle.world.specs.Settled.{HasLooped, MayBePlayed, Plays}
 use Rattle.world.specs.Showing.{IsBuiltStep}
 use Rattle.world.specs.Links.{AreThere, packets_at}
 use Rattle.world.proofs.MovingLemmas.{length_are, links_there}
+use Rattle.world.proofs.QuietLemmas.{quiet_after}
+use Rattle.world.proofs.TakingLemmas.{run_of}
 use Rattle.world.proofs.RoundLemmas.{all_below, take_all}
 use Rattle.world.proofs.SettlingLemmas.{errands_two, rounds_may}
 use Rattle.world.specs.Taking.{HasTaken, IsTaken, StagesState, Taken, settled, stages_after, steps_of}
@@ -315,3 +323,21 @@ link_after P a b s x taken two plays same =
     let dcs : a.workload.dcs ≡ b.workload.dcs = ap (λ (l : Workload). l.dcs) (sym (workload_kept P a b plays taken)) in
     subst (λ (t : StagesState). AreThere x.from x.to t.sites.links) same
     (link_of taken.script (taken.turns ++ settled one.steps) b x.from x.to one.taken (subst (λ n. AreTwo n x.from x.to) dcs two))
+
+-- The loops were not given up, by the law of settling.
+pub plays_ended : (a b : StagesState) → ((w : World) (z : Stages) (steps : List Step) → IsLawful w → StandsFor w z → AreQuiet w.workload z → IsSettlingUpTo 524288 w.workload z steps → IsSettling w.workload z steps)
+    → Plays (IsSettlingUpTo 524288) a b → Plays IsSettling a b
+plays_ended a b law plays script ts h =
+    let one = plays script ts h in
+    let z : Stages = stages_after script ts in
+    let w : World = world_of a.workload a.events in
+    let run = run_of script ts a h in
+    let same : w.workload ≡ script.workload = workload_is a.workload a.events ∙ h.workload in
+    record {
+      steps = one.steps;
+      are =
+          subst (λ l. IsSettling l z one.steps) same
+          (law w z one.steps (laws_of_run a.workload a.events (subst FitsLimits (sym h.workload) h.fits.limits) run.0) run.1 (subst (λ l. AreQuiet l z) (sym same) (quiet_after script ts h.fits h.steps h.built))
+            (subst (λ l. IsSettlingUpTo 524288 l z one.steps) (sym same) one.are));
+      taken = one.taken;
+    }

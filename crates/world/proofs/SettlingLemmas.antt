@@ -6,14 +6,14 @@ use Rattle.std.proofs.lemmas.List.Elements.{All-nil, All-cons, All-append, All-m
 use Rattle.abstract_log.specs.declared.command.Workload.{Workload}
 use Rattle.abstract_log.specs.declared.script.Script.{Script}
 use Rattle.abstract_log.specs.declared.script.Step.{Step}
-use Rattle.abstract_log.specs.declared.script.Step.TheVariants.{Client, Flush, Gossip, Learn, Pass, Place, Stamp, Token}
+use Rattle.abstract_log.specs.declared.script.Step.TheVariants.{Client, Flush, Gossip, Learn, Pass, Place, Post, Stamp, Token}
 use Rattle.abstract_log.specs.declared.world.World.{World}
 use Rattle.log_laws.proofs.LimitedRuns.{workload_is}
 use Rattle.abstract_log.specs.Worlds.{log_of}
 use Rattle.abstract_log.specs.Runs.{world_of}
 use Rattle.stage_world.specs.Opening.{numbered}
 use Rattle.stage_world.specs.Schedules.{AreTwo, IsStep}
-use Rattle.stage_world.specs.Settling.{Errand, below, clients, errands, flushes, gossips, local_round, passes, places, ring, rounds}
+use Rattle.stage_world.specs.Settling.{Errand, below, clients, errands, flushes, gossips, local_round, passes, places, posts, ring, rounds}
 use Rattle.stage_world.specs.Stages.{Datacentre, Session, Stages}
 use Rattle.stage_world.specs.StandsFor.{IsAsFar, StandsAt}
 use Rattle.stage_world.specs.Whole.{StandsFor, datacentre_at}
@@ -49,6 +49,11 @@ module _ (load : Workload) (d : ℕ) (z : Datacentre) (within : d < load.dcs) wh
       all_flat (Good load) (λ i. i < length z.maintainers) (λ m. numbered (Gossip d m) (length z.maintainers)) (below (length z.maintainers))
       (λ m any. all_numbered (Good load) (Gossip d m) (length z.maintainers) (λ k less. (within, tt))) (all_below (length z.maintainers))
 
+  posts_good : All (Good load) (posts d z)
+  posts_good =
+      all_flat (Good load) (λ i. i < length z.maintainers) (λ m. numbered (Post d m) (length z.indexers)) (below (length z.maintainers))
+      (λ m any. all_numbered (Good load) (Post d m) (length z.indexers) (λ i less. (within, tt))) (all_below (length z.maintainers))
+
   round_good : All (λ (x : Session). x.number < length load.sessions) z.sessions → All (Good load) (local_round d z)
   round_good there =
       let G : Step → Type 0 = Good load in
@@ -59,7 +64,8 @@ module _ (load : Workload) (d : ℕ) (z : Datacentre) (within : d < load.dcs) wh
       let three = All-append G (clients z ++ flushes d z ++ passes d z) (ring d z) two ring_good in
       let four = All-append G (clients z ++ flushes d z ++ passes d z ++ ring d z) (places d z) three places_good in
       let five = All-append G (clients z ++ flushes d z ++ passes d z ++ ring d z ++ places d z) (gossips d z) four gossips_good in
-      All-append G (clients z ++ flushes d z ++ passes d z ++ ring d z ++ places d z ++ gossips d z) (Learn d ∷ []) five (All-cons G (Learn d) [] (within, tt) (All-nil G))
+      let six = All-append G (clients z ++ flushes d z ++ passes d z ++ ring d z ++ places d z ++ gossips d z) (posts d z) five posts_good in
+      All-append G (clients z ++ flushes d z ++ passes d z ++ ring d z ++ places d z ++ gossips d z ++ posts d z) (Learn d ∷ []) six (All-cons G (Learn d) [] (within, tt) (All-nil G))
 
 -- the sessions of a datacentre are there
 sessions_there : (w : World) (d : ℕ) (z : Datacentre) → StandsAt w d z → All (λ (x : Session). x.number < length w.workload.sessions) z.sessions

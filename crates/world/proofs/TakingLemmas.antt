@@ -23,7 +23,7 @@ use Rattle.stage_turns.specs.declared.done.TurnDone.{TurnDone}
 use Rattle.datacentre.specs.Leaving.{IsLeftBy}
 use Rattle.world.specs.declared.sites.Sites.{Sites}
 use Rattle.world.specs.declared.stages.Played.{Played}
-use Rattle.world.specs.Showing.{AreBuilt, HasMoved, IsBuiltStep, MayStep, Shows, TellsIdle}
+use Rattle.world.specs.Showing.{HasMoved, IsBuiltStep, MayStep, Shows, TellsIdle}
 use Rattle.world.specs.Taking.{AreLines, HasTaken, IsBefore, IsPlayed, IsTaken, StagesState, Taken, events_after, line_of, lines_told, stages_after, steps_of}
 use Rattle.world.proofs.LeftLemmas.{left_of_all}
 
@@ -81,7 +81,6 @@ may_take script ts s step h good built =
       shown = subst (λ (l : Workload). Shows l.dcs (stages_after script ts) s.sites) (sym h.workload) h.shown;
       fits = good;
       built = built;
-      commands = subst AreBuilt (sym h.workload) h.built;
     }
 
 -- some turns were taken, so one more may be
@@ -114,7 +113,7 @@ module _ (s : StagesState) (step : Step) (settling : Bool) (sites : Sites) (done
       let wrote : Wrote load now step settling done.outcome more = subst (λ (l : Workload). Wrote l now step settling done.outcome more) h.workload does.1 in
       record {
         fits = h.fits;
-        built = h.built;
+        built = subst (All IsBuiltStep) (sym steps) (All-push IsBuiltStep (steps_of ts) step h.built built);
         steps = subst (All (IsStep load)) (sym steps) (All-push (IsStep load) (steps_of ts) step h.steps (subst (λ l. IsStep l step) h.workload good));
         well = refl;
         workload = h.workload;

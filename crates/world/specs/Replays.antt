@@ -6,7 +6,7 @@ use Rattle.abstract_log.specs.Left.{left_of}
 use Rattle.abstract_log.specs.Runs.{IsRun, IsFinished, world_of}
 use Rattle.stage_world.specs.Opening.{opening}
 use Rattle.stage_world.specs.Schedules.{after_steps}
-use Rattle.stage_world.specs.Settling.{IsSettlingUpTo}
+use Rattle.stage_world.specs.Settling.{IsSettling}
 use Rattle.world.specs.declared.stages.Played.{Played}
 use Rattle.world.specs.Taking.{AreLines, Taken, events_after, settled, taken_of}
 
@@ -19,7 +19,7 @@ turns_of script settling = taken_of script.steps ++ settled settling
 -- and what it leaves is told.
 pub record IsReplayed (script : Script) (played : Played) : Type 0 where
   pub settling : List Step
-  pub settles : IsSettlingUpTo 524288 script.workload (after_steps script.workload (opening script) script.steps) settling
+  pub settles : IsSettling script.workload (after_steps script.workload (opening script) script.steps) settling
   pub workload : played.run.workload ≡ script.workload
   pub events : played.run.events ≡ events_after script (turns_of script settling)
   pub lines : AreLines script.workload (opening script) (turns_of script settling) played.stages

@@ -1,6 +1,5 @@
 -- The datacentres and links of the code, and the stage world that they show.
 use Rattle.std.specs.Prelude.{◌≡◌, ⊤, ℕ, ◌+◌, ◌<◌, ◌∷◌, Bool, true, false, List, [], length, map, slice_index_or, slice_set, All, Option, Some}
-use Rattle.abstract_log.specs.declared.command.SessionPlan.{SessionPlan}
 use Rattle.abstract_log.specs.declared.command.Workload.{Workload}
 use Rattle.abstract_log.specs.declared.script.Script.{Script}
 use Rattle.abstract_log.specs.declared.script.Step.{Step}
@@ -20,7 +19,7 @@ use Rattle.stage_world.specs.Turns.{Turned}
 use Rattle.datacentre.specs.Seen.{DatacentreState, StandsForALog}
 use Rattle.stage_turns.specs.Told.{IsToldBy}
 use Rattle.world.specs.declared.sites.Sites.{Sites}
-use Rattle.datacentre.specs.Turning.{IsBuilt, IsBuiltCommand, IsPacketOf}
+use Rattle.datacentre.specs.Turning.{IsBuilt, IsPacketOf}
 
 -- datacentres from number n on, of which none has failed
 abbrev pub states_from : ℕ → List Datacentre → List DatacentreState
@@ -57,10 +56,6 @@ pub record TellsIdle (load : Workload) (z : Stages) (step : Step) (changed : Boo
   pub idle : changed ≡ false → IsIdleTurn load z step
   pub other : changed ≡ true → IsIdleTurn load z step → ⊥
 
--- all commands are appends, puts and reads
-abbrev pub AreBuilt : Workload → Type 0
-AreBuilt load = All (λ (plan : SessionPlan). All IsBuiltCommand plan.commands) load.sessions
-
 -- the turns that are built so far
 abbrev pub IsBuiltStep : Step → Type 0
 IsBuiltStep (Client s) = ⊤
@@ -70,14 +65,14 @@ IsBuiltStep (Stamp d q) = ⊤
 IsBuiltStep (Token d) = ⊤
 IsBuiltStep (Place d q m) = ⊤
 IsBuiltStep (Gossip d m k) = ⊤
-IsBuiltStep (Post d m i) = ⊥
+IsBuiltStep (Post d m i) = ⊤
 IsBuiltStep (Learn d) = ⊤
 IsBuiltStep (Send d k e) = ⊤
 IsBuiltStep (Deliver d e k r) = ⊤
 IsBuiltStep (Lose d e k) = ⊤
 IsBuiltStep (Copy d e k) = ⊤
-IsBuiltStep (Floor d p) = ⊥
-IsBuiltStep (Collect d m) = ⊥
+IsBuiltStep (Floor d p) = ⊤
+IsBuiltStep (Collect d m) = ⊤
 IsBuiltStep (Announce d h t) = ⊥
 IsBuiltStep (Mark d) = ⊥
 IsBuiltStep (AddMaintainer d p) = ⊥
@@ -161,4 +156,3 @@ pub record MayStep (load : Workload) (step : Step) (z : Stages) (sites : Sites) 
   pub shown : Shows load.dcs z sites
   pub fits : IsStep load step
   pub built : IsBuiltStep step
-  pub commands : AreBuilt load

@@ -16,7 +16,7 @@ use Rattle.stage_world.specs.Idle.{IsIdleTurn}
 use Rattle.stage_world.specs.Whole.{StandsFor}
 use Rattle.world.specs.declared.sites.Sites.{Sites}
 use Rattle.world.specs.declared.stages.Played.{Played}
-use Rattle.world.specs.Showing.{AreBuilt, Shows}
+use Rattle.world.specs.Showing.{IsBuiltStep, Shows}
 
 -- a turn that was taken, and whether it belongs to settling
 pub record Taken : Type 0 where
@@ -71,8 +71,8 @@ pub record StagesState : Type 0 where
 -- These are the stages that the script opens, after these turns; the events and the lines are those of the turns.
 pub record HasTaken (script : Script) (ts : List Taken) (s : StagesState) : Type 0 where
   pub fits : FitsScript script
-  pub built : AreBuilt script.workload
   pub steps : All (IsStep script.workload) (steps_of ts)
+  pub built : All IsBuiltStep (steps_of ts)
   pub well : s.failed ≡ false
   pub workload : s.workload ≡ script.workload
   pub shown : Shows script.workload.dcs (stages_after script ts) s.sites

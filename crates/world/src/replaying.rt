@@ -5,33 +5,29 @@ ghost use Rattle.abstract_log.specs.Fits.{FitsScript};
 ghost use Rattle.stage_world.specs.Schedules.{IsStep};
 ghost use Rattle.world.specs.Taking.{HasTaken, taken_of};
 ghost use Rattle.world.specs.Replays.{IsReplayed};
-ghost use Rattle.world.specs.Showing.{AreBuilt, IsBuiltStep};
+ghost use Rattle.world.specs.Showing.{IsBuiltStep};
 
 use crate::stages::{Played, Stages};
 use abstract_log::Script;
 use cz_base::NoMemory;
+use settling_laws::settled_worlds_are_finished;
 use std::alloc::Global;
 
 /// Plays the script's steps, and then on until all is answered and told.
 pub fn replay(alloc: Global, script: &Script) -> Result<Played, NoMemory>
     requires fits { FitsScript script.now }
-    requires built { AreBuilt script.now.workload }
     requires steps { All (IsStep script.now.workload) script.now.steps × All IsBuiltStep script.now.steps }
     ensures { IfOk result (IsReplayed script.now) }
 {
     let mut stages = opened(alloc, script)?;
     stages.settle()?;
-    // Nothing proves yet that settling ends, and a run that is not finished is not told.
-    if !stages.is_finished() {
-        return Err(NoMemory);
-    }
+    settled_worlds_are_finished();
     stages.finish()
 }
 
 // The stages after the script's own steps.
 fn opened(alloc: Global, script: &Script) -> Result<Stages, NoMemory>
     requires fits { FitsScript script.now }
-    requires built { AreBuilt script.now.workload }
     requires steps { All (IsStep script.now.workload) script.now.steps × All IsBuiltStep script.now.steps }
     ensures { IfOk result (λ stages. HasTaken script.now (taken_of script.now.steps) stages) }
 {

@@ -1,8 +1,8 @@
 //! The turns of local rounds, as a list: what the stages are when a round begins decides all of them.
 ghost use Rattle.std.specs.Prelude.{◌≡◌, ◌++◌, ◌<◌, ◌≤◌, ◌%◌, ◌^◌, flat_map, map, OnOk};
 ghost use Rattle.stage_world.specs.Stages.{Datacentre as StagesAt, Session as SessionState};
-ghost use Rattle.stage_world.specs.Settling.{below, clients, flushes, gossips, local_round, passes, places, ring};
-ghost use Rattle.abstract_log.specs.declared.script.Step.TheVariants.{Client, Flush, Gossip, Pass, Place, Stamp, Token};
+ghost use Rattle.stage_world.specs.Settling.{below, local_round};
+ghost use Rattle.abstract_log.specs.declared.script.Step.TheVariants.{Client, Flush, Gossip, Pass, Place, Post};
 ghost use Rattle.stage_world.specs.Opening.{numbered};
 ghost use Rattle.world.specs.Settled.{IsKnown, ring_from};
 
@@ -27,6 +27,7 @@ pub(crate) fn add_round(
     add_ring(steps, d, holder, members.queues)?;
     add_places(steps, d, members.queues, members.maintainers)?;
     add_gossips(steps, d, members.maintainers)?;
+    add_posts(steps, d, members.maintainers, members.indexers)?;
     steps.push(Step::Learn { d })?;
     Ok(())
 }
@@ -138,6 +139,35 @@ fn add_gossips_of(
 {
     for k in 0..maintainers {
         steps.push(Step::Gossip { d, m, k })?;
+    }
+    Ok(())
+}
+
+// Each maintainer with each indexer.
+fn add_posts(
+    steps: &mut Seq<Step>,
+    d: DcId,
+    maintainers: u32,
+    indexers: u32,
+) -> Result<(), NoMemory>
+    ensures { OnOk result (steps.new ≡ steps.old ++ flat_map (λ m. numbered (Post d m) indexers) (below maintainers)) }
+{
+    for m in 0..maintainers {
+        add_posts_of(steps, d, m, indexers)?;
+    }
+    Ok(())
+}
+
+fn add_posts_of(
+    steps: &mut Seq<Step>,
+    d: DcId,
+    m: u32,
+    indexers: u32,
+) -> Result<(), NoMemory>
+    ensures { OnOk result (steps.new ≡ steps.old ++ numbered (Post d m) indexers) }
+{
+    for i in 0..indexers {
+        steps.push(Step::Post { d, m, i })?;
     }
     Ok(())
 }

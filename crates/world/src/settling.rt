@@ -2,7 +2,7 @@
 ghost use Rattle.std.specs.Prelude.{◌≡◌, ◌<◌, OnOk};
 ghost use Rattle.std.specs.List.{All};
 ghost use Rattle.stage_world.specs.Schedules.{AreTwo};
-ghost use Rattle.stage_world.specs.Settling.{IsSettlingUpTo, all_rounds, answering_rounds, errand_turns, exchange_turns, is_answering, is_unfinished, rounds, sent_and_delivered, telling_rounds};
+ghost use Rattle.stage_world.specs.Settling.{IsSettling, all_rounds, answering_rounds, errand_turns, exchange_turns, is_answering, is_unfinished, rounds, sent_and_delivered, telling_rounds};
 ghost use Rattle.world.specs.Settled.{HasLooped, MayBePlayed, Plays};
 ghost use Rattle.world.specs.Taking.{IsTaken};
 
@@ -12,19 +12,22 @@ use crate::packets::packets_in;
 use crate::stages::Stages;
 use abstract_log::Step;
 use cz_base::{DcId, NoMemory};
+use settling_laws::ample_passes_are_enough;
 
-// The most passes of each loop.
+// More passes than each loop makes.
 const PASSES: u32 = 524288;
 
 impl Stages {
-    /// Takes the turns of settling. Nothing proves yet that its loops end, so each is given up after 524,288 passes.
+    /// Takes the turns of settling. Each loop ends before it has made as many passes as are counted here.
     pub(crate) fn settle(&mut self) -> Result<(), NoMemory>
         requires { IsTaken self.old }
-        ensures { OnOk result (Plays (IsSettlingUpTo 524288) self.old self.new) }
+        ensures { OnOk result (Plays IsSettling self.old self.new) }
     {
         self.play_until_answered()?;
         self.play_until_told()?;
-        self.play_everywhere()
+        self.play_everywhere()?;
+        ample_passes_are_enough();
+        Ok(())
     }
 
     // Local rounds where a command is not answered, until all are.

@@ -1,13 +1,12 @@
-ghost use Rattle.std.specs.Prelude.{◌≡◌, true, false, List, [], ◌∷◌, ◌++◌, not, IfOk, OnErr, OnOk, IsErr, IsTrue};
+ghost use Rattle.std.specs.Prelude.{◌≡◌, true, false, List, [], ◌∷◌, ◌++◌, IfOk, OnErr, OnOk, IsErr};
 ghost use Rattle.abstract_log.specs.declared.script.Script.{Script as ScriptValue};
 ghost use Rattle.abstract_log.specs.Fits.{FitsScript};
-ghost use Rattle.abstract_log.specs.Runs.{IsFinished, IsRun, world_of};
+ghost use Rattle.abstract_log.specs.Runs.{IsRun};
 ghost use Rattle.stage_world.specs.Schedules.{IsStep};
-ghost use Rattle.world.specs.Showing.{AreBuilt, IsBuiltStep};
+ghost use Rattle.world.specs.Showing.{IsBuiltStep};
 ghost use Rattle.world.specs.Taking.{lines_told};
 
 use crate::leaving::leave;
-use crate::looks::is_unfinished;
 use crate::opening::open_sites;
 use crate::sites::Sites;
 use abstract_log::{Event, Left, Outcome, Run, Script, StageLine, StageLog, Step, Workload};
@@ -46,13 +45,11 @@ impl Model for Stages {
 }
 
 impl Stages {
-    ghost use Rattle.stage_world.specs.Settling.{is_unfinished};
-    ghost use Rattle.world.specs.Taking.{HasTaken, IsPlayed, Taken, events_after, stages_after};
+    ghost use Rattle.world.specs.Taking.{HasTaken, IsPlayed, Taken};
 
     /// The stages as a script opens them. Its steps are not taken yet.
     pub fn start(alloc: Global, script: &Script) -> Result<Self, NoMemory>
-        requires fits { FitsScript script.now }
-        requires built { AreBuilt script.now.workload }
+        requires { FitsScript script.now }
         ensures { IfOk result (λ stages. HasTaken script.now [] stages) }
     {
         Ok(Stages {
@@ -99,14 +96,6 @@ impl Stages {
         self.events.append(done.events)?;
         self.failed = false;
         Ok(())
-    }
-
-    /// Whether every command is answered and each log has all records.
-    pub(crate) fn is_finished(&self) -> bool
-        ensures exact { (script : ScriptValue) (ts : List Taken) → HasTaken script ts self.now → result ≡ not (is_unfinished (stages_after script ts)) }
-        ensures finished { (script : ScriptValue) (ts : List Taken) → HasTaken script ts self.now → IsTrue result → IsFinished (world_of script.workload (events_after script ts)) }
-    {
-        !is_unfinished(&self.sites.datacentres)
     }
 
     /// What was written, the run and a line for each turn; and what the run leaves, which is moved out of the stages.

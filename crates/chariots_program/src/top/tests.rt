@@ -11,6 +11,11 @@ const ONE_APPEND: &[u8] =
 
 const ONE_GET: &[u8] = b"chariots 1\ndatacentres 1\nround 1\nsession A\nget x\nsteps\nend\n";
 
+const ONE_MARK: &[u8] = b"chariots 1\ndatacentres 1\nround 1\nsteps\nmark A\nend\n";
+
+const SEVENTEEN_KEYS: &[u8] =
+    b"chariots 1\ndatacentres 1\nround 1\nsession A\ntx a b a a a a a a a a a a a a a a a\nsteps\nend\n";
+
 const TWO_MAINTAINERS: &[u8] =
     b"chariots 1\ndatacentres 1\nround 2\nstages A 1 1 1 2 1 1 1\nsession A\nappend =a\nsession A\nappend =b\nread 3\nsession A\nappend =c\nsteps\nend\n";
 
@@ -50,7 +55,7 @@ struct Case {
     written: &'static [u8],
 }
 
-const CASES: [Case; 19] = [
+const CASES: [Case; 21] = [
     Case {
         word: "replay",
         script: NO_SESSION,
@@ -72,8 +77,24 @@ const CASES: [Case; 19] = [
         script: ONE_GET,
         read_fails: 0,
         write_fails: 0,
+        status: 0,
+        written: b"log A 0\nreplies\n0 1 at 0 absent\nend\n",
+    },
+    Case {
+        word: "replay",
+        script: ONE_MARK,
+        read_fails: 0,
+        write_fails: 0,
         status: 3,
         written: b"refused: line 5: not built\n",
+    },
+    Case {
+        word: "replay",
+        script: SEVENTEEN_KEYS,
+        read_fails: 0,
+        write_fails: 0,
+        status: 3,
+        written: b"refused: line 5: wrong number of words\n",
     },
     Case {
         word: "replay",

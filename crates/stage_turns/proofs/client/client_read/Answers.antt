@@ -1,4 +1,3 @@
-use Rattle.std.proofs.Common.{sym, ◌∙◌}
 use Rattle.stage_turns.proofs.ShelfLemmas.{client_told, serving_is}
 use Rattle.stage_turns.proofs.client.client_read.Goals as goal
 

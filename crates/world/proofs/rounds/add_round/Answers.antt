@@ -21,4 +21,4 @@ add_ring-requires-clause-holder c = holds_within _ _ _ _ _ c.requires.1 c.member
 pub returns : goal.returns
 returns c z known =
     round_is c.args.d z c.args.datacentre.now c.members-members.result c.holder-holder.result known c.members-members.ensures c.holder-holder.ensures c.sessions.result.now
-    _ _ _ _ _ _ _ _ c.sessions.ensures c.in_ok-add_clients.ensures c.in_ok-add_flushes.ensures c.in_ok-add_passes.ensures c.in_ok-add_ring.ensures c.in_ok-add_places.ensures c.in_ok-add_gossips.ensures c.in_ok-push.ensures.ok
+    _ _ _ _ _ _ _ _ _ c.sessions.ensures c.in_ok-add_clients.ensures c.in_ok-add_flushes.ensures c.in_ok-add_passes.ensures c.in_ok-add_ring.ensures c.in_ok-add_places.ensures c.in_ok-add_gossips.ensures c.in_ok-add_posts.ensures c.in_ok-push.ensures.ok

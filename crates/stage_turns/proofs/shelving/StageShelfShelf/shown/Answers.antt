@@ -1,4 +1,4 @@
-use Rattle.std.proofs.Common.{◌^◌, ◌<◌, ◌≡◌, List, None, ap, subst, sym, ◌∙◌}
+use Rattle.std.proofs.Common.{List, ap, subst, ◌∙◌}
 use Rattle.std.specs.List.{Contains}
 use Rattle.causal_deps.specs.declared.record.Record.{Record}
 use Rattle.maintainer.specs.Maintainers.{MaintainerState}
