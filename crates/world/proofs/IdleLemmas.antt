@@ -20,7 +20,7 @@ use Rattle.stage_world.specs.LinkTurns.{moved_at, still, send_turn, deliver_turn
 use Rattle.stage_world.specs.MoreTurns.{receive_turn}
 use Rattle.stage_world.specs.Schedules.{place_of_step, step_of, turn_of}
 use Rattle.stage_world.specs.Whole.{datacentre_at, link_at, nowhere_at}
-use Rattle.stage_world.specs.Idle.{IsIdleTurn, TellsChange, apart_from_epochs, moves_packet}
+use Rattle.stage_world.specs.Idle.{TellsChange, apart_from_epochs, moves_packet}
 use Rattle.datacentre.specs.Seen.{DatacentreState}
 use Rattle.stage_turns.specs.declared.done.TurnDone.{TurnDone}
 use Rattle.world.specs.declared.sites.Sites.{Sites}
@@ -131,7 +131,7 @@ delivered_told load z old d e k r found changed h there is tells =
     let moves : (ltb r (datacentre_at z e).receivers && is_some (message_at (link_at z d e) k)) ≡ found = both_told (ltb r (datacentre_at z e).receivers) (is_some (message_at (link_at z d e) k)) there ∙ here in
     packet_told load z (Deliver d e k r) Absent found changed tells moves
     (λ no. cond-true (ltb r (datacentre_at z e).receivers) (deliver_turn z d e k r) (still Absent z) there
-      ∙ ap (λ o. option_map_or (λ m. moved_at (with_link z d e (without (link_at z d e) k)) e (receive_turn e (datacentre_at z e) r m)) o (still Absent z)) (stays_there z d e k r (message_at (link_at z d e) k) (here ∙ no)))
+    ∙ ap (λ o. option_map_or (λ m. moved_at (with_link z d e (without (link_at z d e) k)) e (receive_turn e (datacentre_at z e) r m)) o (still Absent z)) (stays_there z d e k r (message_at (link_at z d e) k) (here ∙ no)))
 
 -- Lose and copy
 

@@ -17,7 +17,6 @@ use Rattle.stage_world.specs.MoreTurns.{message_of, same_counts}
 use Rattle.stage_world.specs.Settling.{Errand, below, errands, has_unanswered, is_unanswered}
 use Rattle.datacentre.specs.Seen.{DatacentreState, StandsForALog}
 use Rattle.world.specs.Settled.{AreKnown, IsKnown, errands_from}
-use Rattle.world.specs.Showing.{states_from}
 use Rattle.world.specs.Taking.{HasTaken, IsTaken, StagesState, Taken, stages_after}
 use Rattle.world.proofs.SiteLemmas.{length-states, states_at}
 use Rattle.world.proofs.TakingLemmas.{run_of}

@@ -1,10 +1,9 @@
 -- What the turns of the code leave is what those of the stage world leave.
 use Rattle.std.proofs.Common.{◌≡◌, ℕ, ◌<◌, true, false, ltb, List, [], length, map, get_or, refl, ap, ap₂, sym, ◌∙◌, subst, arith, Option, Some, None, is_some, Result, Ok, Err, IfOk, OnOk}
-use Rattle.std.specs.List.{All}
 use Rattle.std.specs.Option.{ForSome, option_map, option_map_or}
 use Rattle.std.proofs.Math.ListN.{get_or-map}
 use Rattle.std.proofs.lemmas.List.{length-map}
-use Rattle.std.proofs.lemmas.List.Elements.{All-get_or, All-weaker, All-contains}
+use Rattle.std.proofs.lemmas.List.Elements.{All-get_or, All-contains}
 use Rattle.std.proofs.lemmas.Bool.{cond-true, cond-false, le-ltb, lt-ltb}
 use Rattle.std.proofs.lemmas.Option.{same_Some}
 use Rattle.abstract_log.specs.declared.command.Workload.{Workload}
@@ -20,8 +19,8 @@ use Rattle.lossy_links.specs.declared.link.Copied.TheVariants.{Absent as NoPacke
 use Rattle.lossy_links.proofs.Carried.{in_taken}
 use Rattle.record_codec.specs.declared.message.Message.{Message}
 use Rattle.record_codec.specs.Wire.{SpellsMessage, message_bytes}
-use Rattle.stage_world.specs.Stages.{Datacentre, Stages, Session}
-use Rattle.stage_world.specs.StandsFor.{IsAsFar, StandsAt}
+use Rattle.stage_world.specs.Stages.{Datacentre, Stages}
+use Rattle.stage_world.specs.StandsFor.{StandsAt}
 use Rattle.stage_world.specs.Turns.{Turned, quiet, where_there}
 use Rattle.stage_world.specs.MoreTurns.{message_of, names_of, receive_turn}
 use Rattle.stage_world.specs.LinkTurns.{Moved, deliver_turn, has_lost, link_length, moved_at, put_in_link, send_turn, still, with_link}

@@ -1,5 +1,5 @@
 -- Turns of settling one after another.
-use Rattle.std.proofs.Common.{◌≡◌, inl, inr, Result, Ok, Err, OnOk, ℕ, zero, suc, ◌+◌, ◌<◌, ◌≤◌, Bool, true, false, List, [], ◌∷◌, ◌++◌, length, take, map, get_or, refl, ap, ap₂, sym, ◌∙◌, subst, arith, add-one, append_assoc, below_more}
+use Rattle.std.proofs.Common.{◌≡◌, inl, inr, Result, Ok, Err, OnOk, ℕ, zero, suc, ◌+◌, ◌<◌, ◌≤◌, Bool, true, false, List, [], ◌∷◌, ◌++◌, length, take, get_or, refl, ap, ap₂, sym, ◌∙◌, subst, arith, add-one, append_assoc, below_more}
 use Rattle.std.specs.List.{All, filter}
 use Rattle.std.proofs.lemmas.Bool.{cond-true, cond-false}
 use Rattle.std.proofs.lemmas.List.{append-nil, map-append}
@@ -118,9 +118,9 @@ pub errands_next : (items : List Errand) (i : ℕ) (x : Errand) (a b c : StagesS
 errands_next items i x a b c within here =
     plays_then (AreErrands (take i items)) (λ load z xs. xs ≡ errand_turns load z x) (AreErrands (take (i + 1) items)) a b c
     (λ load z xs ys first second.
-        let done : List Step = exchange load z (take i items) in
-        ap (λ us. us ++ ys) first ∙ ap (λ us. done ++ us) (second ∙ ap (λ us. errand_turns load (after_steps load z us) x) first)
-        ∙ sym (ap (λ n. exchange load z (take n items)) (add-one i) ∙ ap (exchange load z) (take-suc items i x within ∙ ap (λ y. take i items ++ y ∷ []) (sym here)) ∙ errands_push load z (take i items) x))
+    let done : List Step = exchange load z (take i items) in
+    ap (λ us. us ++ ys) first ∙ ap (λ us. done ++ us) (second ∙ ap (λ us. errand_turns load (after_steps load z us) x) first)
+    ∙ sym (ap (λ n. exchange load z (take n items)) (add-one i) ∙ ap (exchange load z) (take-suc items i x within ∙ ap (λ y. take i items ++ y ∷ []) (sym here)) ∙ errands_push load z (take i items) x))
 
 -- Loops
 
@@ -190,16 +190,16 @@ pub plays_settling : (a b c d : StagesState) → Plays (HasLooped 524288 is_answ
 plays_settling a b c d first second last =
     plays_then AreLoops (λ load z xs. xs ≡ all_rounds z) (IsSettlingUpTo 524288) a c d
     (λ load z xs ys loops rounds. record {
-        answering = loops.answering;
-        answers = loops.first.passes;
-        first = loops.first.loop;
-        telling = loops.telling;
-        tells = loops.second.passes;
-        second = loops.second.loop;
-        turns = ap (λ us. us ++ ys) loops.are ∙ ap (λ us. loops.answering ++ loops.telling ++ us) (rounds ∙ ap (λ us. all_rounds (after_steps load z us)) loops.are);
-      })
+      answering = loops.answering;
+      answers = loops.first.passes;
+      first = loops.first.loop;
+      telling = loops.telling;
+      tells = loops.second.passes;
+      second = loops.second.loop;
+      turns = ap (λ us. us ++ ys) loops.are ∙ ap (λ us. loops.answering ++ loops.telling ++ us) (rounds ∙ ap (λ us. all_rounds (after_steps load z us)) loops.are);
+    })
     (plays_then (HasLooped 524288 is_answering answering_rounds) (HasLooped 524288 is_unfinished telling_rounds) AreLoops a b c
-      (λ load z xs ys one two. record { answering = xs; first = one; telling = ys; second = two; are = refl }) first second)
+    (λ load z xs ys one two. record { answering = xs; first = one; telling = ys; second = two; are = refl }) first second)
     last
 
 -- the turn that comes next may be taken
@@ -267,8 +267,8 @@ sends_and_delivers e n a b c sent newest delivered =
     let send : Step = Send e.from e.sender e.to in
     plays_then (λ load z xs. (xs ≡ send ∷ []) × (n ≡ link_length (after_steps load z xs) e.from e.to)) (λ load z xs. xs ≡ Deliver e.from e.to n 0 ∷ []) (λ load z xs. xs ≡ sent_and_delivered load z e) a b c
     (λ load z xs ys first second.
-        let count : n ≡ link_length (step_of load z send).after e.from e.to = first.1 ∙ ap (λ us. link_length (after_steps load z us) e.from e.to) first.0 in
-        ap₂ (λ us vs. us ++ vs) first.0 (second ∙ ap (λ k. Deliver e.from e.to k 0 ∷ []) count))
+    let count : n ≡ link_length (step_of load z send).after e.from e.to = first.1 ∙ ap (λ us. link_length (after_steps load z us) e.from e.to) first.0 in
+    ap₂ (λ us vs. us ++ vs) first.0 (second ∙ ap (λ k. Deliver e.from e.to k 0 ∷ []) count))
     (plays_knowing (λ load z xs. xs ≡ send ∷ []) (λ z. n ≡ link_length z e.from e.to) a b sent newest)
     delivered
 
@@ -314,7 +314,7 @@ answering_within s ds h is =
     let z : Stages = stages_after h.script h.turns in
     subst (All (λ d. d < s.workload.dcs)) (sym is)
     (All-filter (λ d. has_unanswered (datacentre_at z d)) (λ d. d < s.workload.dcs) (below (length z.datacentres))
-      (subst (λ n. All (λ d. d < n) (below (length z.datacentres))) (count_after h.script h.turns s h.taken) (all_below (length z.datacentres))))
+    (subst (λ n. All (λ d. d < n) (below (length z.datacentres))) (count_after h.script h.turns s h.taken) (all_below (length z.datacentres))))
 
 -- so it is after turns
 pub link_after : (P : Such) (a b s : StagesState) (x : Errand) → IsTaken a → AreTwo a.workload.dcs x.from x.to → Plays P a b → b ≡ s → AreThere x.from x.to s.sites.links
@@ -338,6 +338,6 @@ plays_ended a b law plays script ts h =
       are =
           subst (λ l. IsSettling l z one.steps) same
           (law w z one.steps (laws_of_run a.workload a.events (subst FitsLimits (sym h.workload) h.fits.limits) run.0) run.1 (subst (λ l. AreQuiet l z) (sym same) (quiet_after script ts h.fits h.steps h.built))
-            (subst (λ l. IsSettlingUpTo 524288 l z one.steps) (sym same) one.are));
+          (subst (λ l. IsSettlingUpTo 524288 l z one.steps) (sym same) one.are));
       taken = one.taken;
     }

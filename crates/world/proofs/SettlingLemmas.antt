@@ -79,10 +79,10 @@ rounds_may script ts s ds h there =
     let load : w.workload ≡ s.workload = workload_is s.workload s.events in
     both s.workload (rounds z ds)
     (all_flat (Good s.workload) (λ d. d < s.workload.dcs) (λ d. local_round d (datacentre_at z d)) ds
-      (λ d within. round_good s.workload d (datacentre_at z d) within
-        (subst (λ (l : Workload). All (λ (x : Session). x.number < length l.sessions) (datacentre_at z d).sessions) load
-          (sessions_there w d (datacentre_at z d) (stands.each d (subst (λ (l : Workload). d < l.dcs) (sym load) within)))))
-      there)
+    (λ d within. round_good s.workload d (datacentre_at z d) within
+    (subst (λ (l : Workload). All (λ (x : Session). x.number < length l.sessions) (datacentre_at z d).sessions) load
+    (sessions_there w d (datacentre_at z d) (stands.each d (subst (λ (l : Workload). d < l.dcs) (sym load) within)))))
+    there)
 
 -- Errands are between two
 
@@ -98,5 +98,5 @@ errands_two z =
     let dcs : ℕ = length z.datacentres in
     all_flat (λ (x : Errand). AreTwo dcs x.from x.to) (λ d. d < dcs) (λ d. errands_from d dcs (datacentre_at z d).senders) (below dcs)
     (λ d in_d. all_flat (λ (x : Errand). AreTwo dcs x.from x.to) (λ e. e < dcs) (λ e. errands_between d e (datacentre_at z d).senders) (below dcs)
-      (λ e in_e. between_two dcs d e (datacentre_at z d).senders in_d in_e) (all_below dcs))
+    (λ e in_e. between_two dcs d e (datacentre_at z d).senders in_d in_e) (all_below dcs))
     (all_below dcs)

@@ -1,5 +1,5 @@
 -- The turns that all stages have taken since a script opened them.
-use Rattle.std.specs.Prelude.{◌≡◌, ◌⊎◌, ◌||◌, Bool, true, false, not, if◌then◌else◌, List, [], ◌∷◌, ◌++◌, map, All}
+use Rattle.std.specs.Prelude.{◌≡◌, ◌⊎◌, ◌||◌, Bool, true, false, not, if◌then◌else◌, List, [], ◌∷◌, map, All}
 use Rattle.abstract_log.specs.declared.command.Workload.{Workload}
 use Rattle.abstract_log.specs.declared.event.Event.{Event}
 use Rattle.abstract_log.specs.declared.script.Outcome.{Outcome}

@@ -49,12 +49,7 @@ pub(crate) fn errands(
 }
 
 // From d to each other.
-fn add_errands(
-    them: &mut Seq<Errand>,
-    d: DcId,
-    dcs: u32,
-    senders: u32,
-) -> Result<(), NoMemory>
+fn add_errands(them: &mut Seq<Errand>, d: DcId, dcs: u32, senders: u32) -> Result<(), NoMemory>
     requires { dcs ≤ 8 }
     ensures { OnOk result (them.new ≡ them.old ++ errands_from d dcs senders) }
 {

@@ -40,7 +40,9 @@ fn in_link(done: TurnDone, link: u32, lost: bool) -> TurnDone
     ensures changed { result.changed ≡ true }
 {
     let TurnDone {
-        outcome, events, ..
+        outcome,
+        events,
+        ..
     } = done;
     let outcome = match outcome {
         Outcome::Sent { names, .. } => Outcome::Sent { names, link, lost },
@@ -58,7 +60,9 @@ pub(crate) fn with_change(done: TurnDone) -> TurnDone
     ensures { result ≡ record done { changed = true } }
 {
     let TurnDone {
-        outcome, events, ..
+        outcome,
+        events,
+        ..
     } = done;
     TurnDone {
         outcome,

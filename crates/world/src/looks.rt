@@ -157,11 +157,7 @@ pub(crate) fn rounds(
 {
     let mut steps = Seq::new(alloc);
     for d in ds {
-        add_round(
-            &mut steps,
-            *d,
-            &datacentres.as_slice()[d.number() as usize],
-        )?;
+        add_round(&mut steps, *d, &datacentres.as_slice()[d.number() as usize])?;
     }
     Ok(steps)
 }

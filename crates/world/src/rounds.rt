@@ -55,12 +55,7 @@ fn add_flushes(steps: &mut Seq<Step>, d: DcId, batchers: u32) -> Result<(), NoMe
 }
 
 // Each filter, with its queue.
-fn add_passes(
-    steps: &mut Seq<Step>,
-    d: DcId,
-    filters: u32,
-    queues: u32,
-) -> Result<(), NoMemory>
+fn add_passes(steps: &mut Seq<Step>, d: DcId, filters: u32, queues: u32) -> Result<(), NoMemory>
     requires { 1 ≤ queues }
     ensures { OnOk result (steps.new ≡ steps.old ++ numbered (λ f. Pass d f (f % queues)) filters) }
 {
@@ -91,12 +86,7 @@ fn add_ring(steps: &mut Seq<Step>, d: DcId, holder: u32, queues: u32) -> Result<
 }
 
 // Each queue with each maintainer.
-fn add_places(
-    steps: &mut Seq<Step>,
-    d: DcId,
-    queues: u32,
-    maintainers: u32,
-) -> Result<(), NoMemory>
+fn add_places(steps: &mut Seq<Step>, d: DcId, queues: u32, maintainers: u32) -> Result<(), NoMemory>
     ensures { OnOk result (steps.new ≡ steps.old ++ flat_map (λ q. numbered (Place d q) maintainers) (below queues)) }
 {
     for q in 0..queues {
@@ -105,12 +95,7 @@ fn add_places(
     Ok(())
 }
 
-fn add_places_of(
-    steps: &mut Seq<Step>,
-    d: DcId,
-    q: u32,
-    maintainers: u32,
-) -> Result<(), NoMemory>
+fn add_places_of(steps: &mut Seq<Step>, d: DcId, q: u32, maintainers: u32) -> Result<(), NoMemory>
     ensures { OnOk result (steps.new ≡ steps.old ++ numbered (Place d q) maintainers) }
 {
     for m in 0..maintainers {
@@ -129,12 +114,7 @@ fn add_gossips(steps: &mut Seq<Step>, d: DcId, maintainers: u32) -> Result<(), N
     Ok(())
 }
 
-fn add_gossips_of(
-    steps: &mut Seq<Step>,
-    d: DcId,
-    m: u32,
-    maintainers: u32,
-) -> Result<(), NoMemory>
+fn add_gossips_of(steps: &mut Seq<Step>, d: DcId, m: u32, maintainers: u32) -> Result<(), NoMemory>
     ensures { OnOk result (steps.new ≡ steps.old ++ numbered (Gossip d m) maintainers) }
 {
     for k in 0..maintainers {
@@ -158,12 +138,7 @@ fn add_posts(
     Ok(())
 }
 
-fn add_posts_of(
-    steps: &mut Seq<Step>,
-    d: DcId,
-    m: u32,
-    indexers: u32,
-) -> Result<(), NoMemory>
+fn add_posts_of(steps: &mut Seq<Step>, d: DcId, m: u32, indexers: u32) -> Result<(), NoMemory>
     ensures { OnOk result (steps.new ≡ steps.old ++ numbered (Post d m) indexers) }
 {
     for i in 0..indexers {

@@ -150,6 +150,14 @@ impl Stages {
         let k = errand.sender;
         self.take(&Step::Send { d, k, e }, true)?;
         let newest = packets_in(&self.sites.links, d, e);
-        self.take(&Step::Deliver { d, e, k: newest, r: 0 }, true)
+        self.take(
+            &Step::Deliver {
+                d,
+                e,
+                k: newest,
+                r: 0,
+            },
+            true,
+        )
     }
 }

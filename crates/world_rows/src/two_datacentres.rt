@@ -2,7 +2,7 @@ ghost use Rattle.std.specs.Prelude.{◌≡◌, [], ◌∷◌, IfOk, IsTrue};
 ghost use Rattle.abstract_log.specs.declared.command.Command.TheVariants.{Read};
 ghost use Rattle.abstract_log.specs.Fits.{FitsScript, FitsSizes};
 ghost use Rattle.stage_world.specs.Schedules.{AreTwo, IsStep};
-ghost use Rattle.world.specs.Showing.{AreBuilt, IsBuiltStep};
+ghost use Rattle.world.specs.Showing.{IsBuiltStep};
 ghost use Rattle.world_rows.specs.Given.{AreOnePut, IsGiven};
 
 use abstract_log::{Command, Event, Outcome, Script, SessionPlan, Sizes, Step, Workload};
@@ -70,8 +70,7 @@ fn workload(alloc: Global) -> Result<Workload, Fail>
 }
 
 fn script(alloc: Global) -> Result<Script, Fail>
-    ensures fits { IfOk result FitsScript }
-    ensures built { IfOk result (λ script. AreBuilt script.workload) }
+    ensures { IfOk result FitsScript }
 {
     let mut each = Seq::new(alloc);
     each.push(sizes())?;
@@ -98,7 +97,10 @@ fn may_take(workload: &Workload, step: &Step) -> bool
         Step::Token { d } => d.number() < dcs,
         Step::Place { d, q: _, m: _ } => d.number() < dcs,
         Step::Gossip { d, m: _, k: _ } => d.number() < dcs,
+        Step::Post { d, m: _, i: _ } => d.number() < dcs,
         Step::Learn { d } => d.number() < dcs,
+        Step::Floor { d, p: _ } => d.number() < dcs,
+        Step::Collect { d, m: _ } => d.number() < dcs,
         Step::Send { d, k: _, e } => are_two(dcs, d, e),
         Step::Deliver { d, e, k: _, r: _ } => are_two(dcs, d, e),
         Step::Lose { d, e, k: _ } => are_two(dcs, d, e),

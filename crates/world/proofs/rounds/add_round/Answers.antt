@@ -1,4 +1,3 @@
-use Rattle.std.proofs.Common.{OnOk}
 use Rattle.world.proofs.KnownLemmas.{asks}
 use Rattle.world.proofs.RoundIs.{few_queues, has_queue, holds_within, round_is}
 use Rattle.world.proofs.rounds.add_round.Goals as goal

@@ -1,7 +1,5 @@
-use Rattle.std.proofs.Common.{arith, length, sym, ◌∙◌, ap, subst, take, List, [], ◌∷◌, Bool, true}
-use Rattle.std.specs.List.{All}
-use Rattle.std.proofs.lemmas.List.Elements.{All-get_or}
-use Rattle.world.proofs.SettledLemmas.{AreThese, item_may, plays_all, plays_next, plays_none, plays_one}
+use Rattle.std.proofs.Common.{arith}
+use Rattle.world.proofs.SettledLemmas.{item_may, plays_all, plays_next, plays_none, plays_one}
 use Rattle.world.proofs.stages.Stages.play.Goals as goal
 
 pub loop-step-init : goal.loop-step-init

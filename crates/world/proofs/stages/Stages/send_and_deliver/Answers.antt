@@ -1,4 +1,4 @@
-use Rattle.std.proofs.Common.{◌≡◌, [], ◌∷◌, length, ap, sym, subst, ◌∙◌}
+use Rattle.std.proofs.Common.{◌≡◌, [], ◌∷◌, length, sym, subst, ◌∙◌}
 use Rattle.abstract_log.specs.declared.script.Step.TheVariants.{Deliver, Send}
 use Rattle.stage_world.specs.Settling.{Errand}
 use Rattle.world.specs.Links.{AreThere, packets_at}
@@ -16,8 +16,8 @@ pub returns : goal.returns
 returns c =
     ended_with c.take-2.result _ _ c.take.new.self c.take-2.new.self c.take-2.ensures.taken
     (λ delivered. sends_and_delivers c.args.errand.now c.packets_in-newest.result _ _ _
-      (subst (λ (x : Errand). Plays (λ load z xs. xs ≡ Send x.from x.sender x.to ∷ []) c.args.self.now c.take.new.self) c.errand.view_is (plays_one _ _ _ c.in_ok-take.ensures.taken))
-      (λ script ts h.
-          subst (λ (x : Errand). c.packets_in-newest.result ≡ length (packets_at c.self.inside.sites.links x.from x.to)) c.errand.view_is c.packets_in-newest.ensures
-          ∙ count_of_link script ts _ c.args.errand.now.from c.args.errand.now.to (subst (HasTaken script ts) (sym c.self.view_is) h))
-      (subst (λ (x : Errand). Plays (λ load z xs. xs ≡ Deliver x.from x.to c.packets_in-newest.result 0 ∷ []) c.take.new.self c.take-2.new.self) c.errand.view_is delivered))
+    (subst (λ (x : Errand). Plays (λ load z xs. xs ≡ Send x.from x.sender x.to ∷ []) c.args.self.now c.take.new.self) c.errand.view_is (plays_one _ _ _ c.in_ok-take.ensures.taken))
+    (λ script ts h.
+    subst (λ (x : Errand). c.packets_in-newest.result ≡ length (packets_at c.self.inside.sites.links x.from x.to)) c.errand.view_is c.packets_in-newest.ensures
+    ∙ count_of_link script ts _ c.args.errand.now.from c.args.errand.now.to (subst (HasTaken script ts) (sym c.self.view_is) h))
+    (subst (λ (x : Errand). Plays (λ load z xs. xs ≡ Deliver x.from x.to c.packets_in-newest.result 0 ∷ []) c.take.new.self c.take-2.new.self) c.errand.view_is delivered))
