@@ -1,16 +1,12 @@
--- What is read as a script may be replayed: its commands and its steps are built, and its steps are in their ranges.
+-- What is read as a script may be replayed: its steps are built, and in their ranges.
 use Rattle.std.proofs.Common.{ℕ, List, [], ◌∷◌, arith, All}
 use Rattle.std.proofs.lemmas.List.Elements.{All-nil, All-cons, All-head, All-tail}
-use Rattle.abstract_log.specs.declared.command.Command.{Command}
-use Rattle.abstract_log.specs.declared.command.Command.TheVariants.{Append, Put, Get, Tx, Read, Last}
-use Rattle.abstract_log.specs.declared.command.SessionPlan.{SessionPlan}
 use Rattle.abstract_log.specs.declared.command.Workload.{Workload}
 use Rattle.abstract_log.specs.declared.script.Step.{Step}
 use Rattle.abstract_log.specs.declared.script.Step.TheVariants.{Client, Flush, Pass, Stamp, Token, Place, Gossip, Post, Learn, Send, Deliver, Lose, Copy, Floor, Collect, Announce, Mark, AddMaintainer, AddBatcher, AddQueue, AddSender, AddReceiver}
 use Rattle.script_text.specs.Steps.{FitsStep, AreTwo as AreApart}
-use Rattle.script_text.specs.Spelled.{IsBuiltCommand as IsReadCommand, IsBuiltStep as IsReadStep}
+use Rattle.script_text.specs.Spelled.{IsBuiltStep as IsReadStep}
 use Rattle.stage_world.specs.Schedules.{IsStep, AreTwo}
-use Rattle.datacentre.specs.Turning.{IsBuiltCommand}
 use Rattle.world.specs.Showing.{IsBuiltStep}
 
 -- Steps are in their ranges.
@@ -47,7 +43,7 @@ all_fit_are_steps load [] fits = All-nil (IsStep load)
 all_fit_are_steps load (t ∷ more) fits =
     All-cons (IsStep load) t more (fits_is_step load t (All-head (FitsStep load) t more fits)) (all_fit_are_steps load more (All-tail (FitsStep load) t more fits))
 
--- Steps and commands are built.
+-- Steps are built.
 
 built_step : (t : Step) → IsReadStep t → IsBuiltStep t
 built_step (Client s) built = tt
@@ -77,28 +73,3 @@ pub all_steps_built : (steps : List Step) → All IsReadStep steps → All IsBui
 all_steps_built [] built = All-nil IsBuiltStep
 all_steps_built (t ∷ more) built =
     All-cons IsBuiltStep t more (built_step t (All-head IsReadStep t more built)) (all_steps_built more (All-tail IsReadStep t more built))
-
-built_command : (command : Command) → IsReadCommand command → IsBuiltCommand command
-built_command (Append tags body) built = tt
-built_command (Put key body) built = tt
-built_command (Get key) built = tt
-built_command (Tx keys) built = tt
-built_command (Read lid) built = tt
-built_command (Last tag n) built = tt
-
-commands_built : (commands : List Command) → All IsReadCommand commands → All IsBuiltCommand commands
-commands_built [] built = All-nil IsBuiltCommand
-commands_built (command ∷ more) built =
-    All-cons IsBuiltCommand command more (built_command command (All-head IsReadCommand command more built))
-    (commands_built more (All-tail IsReadCommand command more built))
-
-abbrev ReadPlan : SessionPlan → Type 0
-ReadPlan plan = All IsReadCommand plan.commands
-
-abbrev BuiltPlan : SessionPlan → Type 0
-BuiltPlan plan = All IsBuiltCommand plan.commands
-
-pub plans_built : (plans : List SessionPlan) → All ReadPlan plans → All BuiltPlan plans
-plans_built [] built = All-nil BuiltPlan
-plans_built (plan ∷ more) built =
-    All-cons BuiltPlan plan more (commands_built plan.commands (All-head ReadPlan plan more built)) (plans_built more (All-tail ReadPlan plan more built))
