@@ -1,3 +1,4 @@
 pub mod LineLemmas
 pub mod LeftLemmas
 pub mod Whole
+pub mod SummaryLemmas

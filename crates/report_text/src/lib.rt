@@ -4,9 +4,11 @@
 
 mod events;
 mod report;
+mod summary_form;
 mod text;
 mod turns;
 mod values;
 
 pub use report::{full, logs};
+pub use summary_form::summary;
 pub use text::Text;
