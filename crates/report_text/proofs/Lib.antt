@@ -2,3 +2,4 @@ pub mod LineLemmas
 pub mod LeftLemmas
 pub mod Whole
 pub mod SummaryLemmas
+pub mod JsonLemmas

@@ -4,3 +4,4 @@ pub mod Values
 pub mod Turns
 pub mod Report
 pub mod Summary
+pub mod Json
