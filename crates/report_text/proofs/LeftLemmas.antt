@@ -32,4 +32,4 @@ pub few_left : (load : Workload) (events : List Event) (left : List LeftAt) → 
 few_left load events left fits is =
     let w : World = world_of load events in
     let dcs : w.workload.dcs ≡ load.dcs = ap (λ (l : Workload). l.dcs) (load_kept (start load) events) in
-    omega (arith, ap (length {A = LeftAt}) is, length-map (left_at w) (range_with_len 0 w.workload.dcs), length-range_with_len 0 w.workload.dcs, dcs, fits.few)
+    omega (arith, ap (length {A = LeftAt}) is, length-map (range_with_len 0 w.workload.dcs) (left_at w), length-range_with_len 0 w.workload.dcs, dcs, fits.few)

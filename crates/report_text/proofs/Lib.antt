@@ -1,3 +1,5 @@
 pub mod LineLemmas
 pub mod LeftLemmas
 pub mod Whole
+pub mod SummaryLemmas
+pub mod JsonLemmas

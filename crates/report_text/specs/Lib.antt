@@ -3,3 +3,5 @@ pub mod Lines
 pub mod Values
 pub mod Turns
 pub mod Report
+pub mod Summary
+pub mod Json

@@ -213,7 +213,8 @@ fn put_index(text: &mut Text, session: u32, index: u32) -> Result<(), NoMemory>
     text.number(u64::from(index))
 }
 
-fn put_answer(text: &mut Text, answer: &Answer) -> Result<(), NoMemory>
+/// The words of an answer, with a space before each.
+pub fn put_answer(text: &mut Text, answer: &Answer) -> Result<(), NoMemory>
     ensures { OnOk result (text.new ≡ text.old ++ spaced (answer_words answer.now)) }
 {
     match answer {

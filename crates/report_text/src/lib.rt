@@ -3,10 +3,14 @@
 #![tactic(auto)]
 
 mod events;
+mod json_form;
 mod report;
+mod summary_form;
 mod text;
 mod turns;
 mod values;
 
+pub use json_form::json;
 pub use report::{full, logs};
+pub use summary_form::summary;
 pub use text::Text;

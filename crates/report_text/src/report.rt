@@ -58,15 +58,15 @@ fn put_first(text: &mut Text, dcs: u32) -> Result<(), NoMemory>
     ensures { OnOk result (text.new ≡ text.old ++ lines_text (first_lines dcs)) }
 {
     text.put(b"chariots report 1\n")?;
-    put_fact(text, b"datacentres", dcs)
+    put_fact(text, b"datacentres", dcs as u64)
 }
 
-// A line of a word and a number.
-fn put_fact(text: &mut Text, word: &[u8], n: u32) -> Result<(), NoMemory>
+/// A line of a word and a number.
+pub fn put_fact(text: &mut Text, word: &[u8], n: u64) -> Result<(), NoMemory>
     ensures { OnOk result (text.new ≡ text.old ++ lines_text (fact_lines word.now n)) }
 {
     text.put(word)?;
-    text.number(u64::from(n))?;
+    text.number(n)?;
     text.end_line()
 }
 

@@ -5,7 +5,7 @@ use Rattle.report_text.proofs.Whole.{full_told}
 use Rattle.report_text.proofs.report.full.Goals as goal
 
 pub put_datacentres-requires : goal.put_datacentres-requires
-put_datacentres-requires c = few_left _ _ _ c.requires.limits.workload c.requires.left
+put_datacentres-requires c = few_left c.args.run.now.workload c.args.run.now.events c.args.left.now c.requires.limits.workload c.requires.left
 
 pub returns : goal.returns
 returns c = c.into_bytes.ensures ∙ full_told c.args.run.now (option_copied c.args.stages) c.args.left.now _ _ _ _ _ _ _ _ _ c.requires.left c.len.ensures c.new-text.ensures

@@ -1,0 +1,8 @@
+use Rattle.std.proofs.Common.{◌≡◌, map, take}
+use Rattle.serde_json.specs.View.{view}
+use Rattle.report_text.specs.Json.{row_items}
+use Rattle.report_text.specs.Numbered.{flat_map_from}
+use Rattle.report_text.proofs.json_form.log_value.Given as goal
+
+abbrev pub invariant-loop-place : goal.invariant-loop-place
+invariant-loop-place l = map view l.items.items ≡ flat_map_from row_items 1 (take l.place l.row-items)

@@ -1,0 +1,6 @@
+use Rattle.std.proofs.Common.{◌≡◌, take}
+use Rattle.report_text.specs.Summary.{writes_of}
+use Rattle.report_text.proofs.summary_form.writes_of.Given as goal
+
+abbrev pub invariant-loop-plan : goal.invariant-loop-plan
+invariant-loop-plan l = l.count ≡ writes_of (take l.plan-index l.plan-items)
