@@ -30,3 +30,4 @@ pub mod Settled
 pub mod Bounds
 pub mod Ample
 pub mod Quiet
+pub mod Scripts

@@ -1,13 +1,15 @@
 -- How settling ends.
-use Rattle.std.specs.Prelude.{◌≡◌, ℕ, ◌+◌, ◌*◌, ◌<◌, ◌≤◌, List, All, None}
+use Rattle.std.specs.Prelude.{◌≡◌, ℕ, ◌+◌, ◌*◌, ◌<◌, ◌≤◌, ◌++◌, List, All, None}
 use Rattle.abstract_log.specs.declared.command.Workload.{Workload}
+use Rattle.abstract_log.specs.declared.script.Script.{Script}
 use Rattle.abstract_log.specs.declared.script.Step.{Step}
 use Rattle.abstract_log.specs.declared.script.Step.TheVariants.{Announce}
 use Rattle.abstract_log.specs.declared.world.World.{World}
-use Rattle.abstract_log.specs.Runs.{CanAllHappen, IsFinished, after_all}
+use Rattle.abstract_log.specs.Runs.{CanAllHappen, IsFinished, IsRun, after_all, world_of}
+use Rattle.stage_world.specs.Opening.{opening}
 use Rattle.stage_world.specs.Stages.{Stages}
 use Rattle.stage_world.specs.Whole.{datacentre_at}
-use Rattle.stage_world.specs.Schedules.{IsStep, events_of}
+use Rattle.stage_world.specs.Schedules.{IsStep, after_steps, events_of}
 use Rattle.stage_world.specs.Settling.{is_unfinished, telling_rounds, IsLoop, IsSettling}
 
 -- no announcement is on
@@ -45,3 +47,10 @@ pub record IsFinishedBy (w : World) (z : Stages) (steps : List Step) : Type 0 wh
 -- a number of passes that no loop of settling comes to
 abbrev pub ample : ℕ
 ample = 524288
+
+-- The steps of a script, and turns by which the stages settle after them, make a run on its workload that leaves a finished world.
+pub record HasFinishedRun (script : Script) : Type 0 where
+  pub settling : List Step
+  pub settles : IsSettling script.workload (after_steps script.workload (opening script) script.steps) settling
+  pub run : IsRun script.workload (events_of script.workload (opening script) (script.steps ++ settling))
+  pub finished : IsFinished (world_of script.workload (events_of script.workload (opening script) (script.steps ++ settling)))

@@ -10,7 +10,7 @@ ghost use Rattle.stage_world.specs.Schedules.{IsStep, after_steps};
 ghost use Rattle.stage_world.specs.Settling.{is_answering, IsSettling, IsSettlingUpTo};
 ghost use Rattle.stage_world.specs.Stages.{Stages};
 ghost use Rattle.stage_world.specs.Whole.{StandsFor};
-ghost use Rattle.settling_laws.specs.Ending.{ample, AreQuiet, EndsSettling, EndsTelling, IsCalm, IsFinishedBy};
+ghost use Rattle.settling_laws.specs.Ending.{ample, AreQuiet, EndsSettling, EndsTelling, HasFinishedRun, IsCalm, IsFinishedBy};
 ghost use Rattle.settling_laws.specs.Rounds.{EndsAnswering, IsSettledByRound};
 
 /// A local round of a datacentre changes that one alone: it leaves nothing there that may go into the log, no open write, and a log
@@ -48,4 +48,10 @@ pub fn ample_passes_are_enough()
 pub fn calm_scripts_stay_quiet()
     ensures { (script : Script) → FitsScript script → All (IsStep script.workload) script.steps → All IsCalm script.steps
         → AreQuiet script.workload (after_steps script.workload (opening script) script.steps) }
+{}
+
+/// Every script in its ranges that announces nothing comes to its end: its steps, and settling after them, make a run on its workload
+/// that leaves a finished world.
+pub fn scripts_come_to_an_end()
+    ensures { (script : Script) → FitsScript script → All (IsStep script.workload) script.steps → All IsCalm script.steps → HasFinishedRun script }
 {}

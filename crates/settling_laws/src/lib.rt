@@ -10,5 +10,5 @@ mod laws;
 
 pub use laws::{
     ample_passes_are_enough, answering_ends, calm_scripts_stay_quiet, rounds_settle_a_datacentre,
-    settled_worlds_are_finished, settling_ends, telling_ends,
+    scripts_come_to_an_end, settled_worlds_are_finished, settling_ends, telling_ends,
 };

@@ -4,7 +4,7 @@ use Rattle.datacentre.proofs.FloorTurns.{collect_is, collect_may}
 use Rattle.datacentre.proofs.parts.Parts.collect.Goals as goal
 
 pub collect-requires : goal.collect-requires
-collect-requires c = collect_may c.args.self.now c.args.m _ c.requires (search rules) c.item_mut.ensures.value
+collect-requires c = record { may = collect_may c.args.self.now c.args.m _ c.requires (search rules) c.item_mut.ensures.value }
 
 pub returns : goal.returns
 returns c =

@@ -3,8 +3,8 @@ use Rattle.datacentre.proofs.WholeTurns.{if_five}
 use Rattle.datacentre.proofs.PostTurns.{post_is, post_may}
 use Rattle.datacentre.proofs.parts.Parts.post.Goals as goal
 
-pub post-requires-clause-may : goal.post-requires-clause-may
-post-requires-clause-may c = post_may c.args.self.now c.args.m c.args.i _ _ c.requires (search rules) (search rules) c.item_mut.ensures.value c.item_mut-2.ensures.value
+pub post-requires : goal.post-requires
+post-requires c = record { may = post_may c.args.self.now c.args.m c.args.i _ _ c.requires (search rules) (search rules) c.item_mut.ensures.value c.item_mut-2.ensures.value }
 
 pub returns : goal.returns
 returns c =
