@@ -146,7 +146,7 @@ module _ (x : MaintainerState Record) (m : ℕ) (i : IndexerState) (may : MayPos
       let ends : end ≡ post_mark x low = is_end ∙ ap (post_mark x) is_start in (
         ends,
         reads ∙ ap (λ (es : List (Slot Record)). map row_made (filter (is_between start end) es)) are ∙ ap (λ (n : ℕ). map row_made (filter (is_between n end) x.entries)) is_start
-        ∙ ap (λ (n : ℕ). map row_made (filter (is_between low n) x.entries)) ends,
+            ∙ ap (λ (n : ℕ). map row_made (filter (is_between low n) x.entries)) ends,
       )
 
   pub read_own : (start end : ℕ) (entries : List (Slot Record)) (read : List Post) (epochs : EpochList) → start ≡ low → 1 ≤ start → end ≡ post_mark x start → entries ≡ x.entries → AreRising x.entries

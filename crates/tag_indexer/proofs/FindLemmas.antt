@@ -1,5 +1,5 @@
 -- Rows in order: where one is put in, and which one stands at a position.
-use Rattle.std.proofs.Common.{◌≡◌, ◌≢◌, ℕ, zero, suc, ◌<◌, ◌≤◌, true, false, cond, leb, ltb, eqb, List, [], ◌∷◌, length, get_or, refl, ap, sym, ◌∙◌, subst, Some, None, inl, inr, arith}
+use Rattle.std.proofs.Common.{◌≡◌, ◌≢◌, ℕ, zero, suc, ◌<◌, ◌≤◌, true, false, leb, ltb, eqb, List, [], ◌∷◌, length, get_or, refl, ap, sym, ◌∙◌, subst, Some, None, inl, inr, arith}
 use Rattle.std.specs.List.{AllWithin, insert, find}
 use Rattle.std.proofs.lemmas.Bool.{cases_lt, cond-true, cond-false, eq-eqb, ne_eqb, lt-ltb, le-ltb, leb-true, leb-false}
 use Rattle.std.proofs.lemmas.List.Sorted.{IsNonDecreasingBy-insert}

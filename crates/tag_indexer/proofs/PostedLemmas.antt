@@ -1,11 +1,11 @@
 -- What an indexer keeps once rows are posted.
-use Rattle.std.proofs.Common.{◌≡◌, ◌⊎◌, ℕ, ◌<◌, ◌≤◌, max, Bool, true, List, length, get_or, set, refl, ap, sym, ◌∙◌, subst, inl, inr, arith, IsTrue}
-use Rattle.std.specs.List.{All, AllPairs, filter}
+use Rattle.std.proofs.Common.{◌≡◌, ◌⊎◌, ℕ, ◌<◌, ◌≤◌, max, Bool, true, List, set, ap, sym, ◌∙◌, subst, arith}
+use Rattle.std.specs.List.{All, filter}
 use Rattle.std.proofs.lemmas.List.{length-set}
 use Rattle.std.proofs.lemmas.List.Elements.{All-weaker, All-get_or, All-set}
 use Rattle.causal_deps.specs.declared.record.Record.{Record}
 use Rattle.flstore_rounds.specs.Epochs.{EpochList, owner, longer, IsPrefix}
-use Rattle.flstore_rounds.specs.Heads.{Pair, mark_at, single, with_own, IsTruePair, IsTrueMark, IsBelowMark}
+use Rattle.flstore_rounds.specs.Heads.{Pair, mark_at, with_own, IsTruePair, IsTrueMark, IsBelowMark}
 use Rattle.flstore_rounds.proofs.HeadLemmas.{single_true, with_own_true}
 use Rattle.tag_indexer.specs.declared.post.Post.{Post}
 use Rattle.tag_indexer.specs.Rows.{has_home, rows_in}

@@ -1,14 +1,13 @@
 -- Rows that are put in their places, and what an indexer has of a log once rows are posted.
-use Rattle.std.proofs.Common.{◌≡◌, ◌≢◌, ◌⊎◌, ℕ, zero, suc, ◌+◌, ◌-◌, ◌<◌, ◌≤◌, max, Bool, true, cond, ltb, eqb, List, [], ◌∷◌, ◌++◌, length, map, get_or, refl, ap, sym, ◌∙◌, subst, inl, inr, arith, Some, slice_get}
-use Rattle.std.specs.List.{All, AllPairs, Contains, sum_by, fold, filter}
-use Rattle.std.proofs.lemmas.List.{get_or-set_same, get_or-set_other, length-set}
+use Rattle.std.proofs.Common.{◌≡◌, ◌≢◌, ◌⊎◌, ℕ, suc, ◌-◌, ◌<◌, ◌≤◌, max, Bool, true, ltb, List, [], ◌∷◌, ◌++◌, length, map, get_or, refl, ap, sym, ◌∙◌, subst, inl, inr, arith, slice_get}
+use Rattle.std.specs.List.{All, AllPairs, Contains, filter}
+use Rattle.std.proofs.lemmas.List.{get_or-set_same, length-set}
 use Rattle.std.proofs.lemmas.List.Elements.{All-nil, All-cons, All-head, All-tail, All-weaker, All-contains}
-use Rattle.std.proofs.lemmas.List.Sums.{sum_by-cons}
 use Rattle.std.proofs.lemmas.List.Kept.{AllPairs-cons, AllPairs-filter}
-use Rattle.std.proofs.lemmas.Bool.{cases_eq, cases_lt, cond_both, cond-true, eq-eqb, ne_eqb, ltb-true, ltb-false}
+use Rattle.std.proofs.lemmas.Bool.{cases_lt, cond_both, cond-true, ltb-true, ltb-false}
 use Rattle.causal_deps.proofs.Lists.{Contains-here, Contains-there, Contains-cons, slice_get_some, slice_get-append_left}
 use Rattle.causal_deps.specs.declared.record.Record.{Record}
-use Rattle.flstore_rounds.specs.Epochs.{EpochList, owner, longer, later_than, IsPrefix, IsSettled}
+use Rattle.flstore_rounds.specs.Epochs.{EpochList, owner, longer, IsPrefix}
 use Rattle.flstore_rounds.specs.Heads.{Pair, mark_at, with_own, IsBelowMark}
 use Rattle.flstore_rounds.proofs.EpochLemmas.{owner-prefix}
 use Rattle.flstore_rounds.proofs.HeadLemmas.{with_own_at}

@@ -1,7 +1,7 @@
 -- Positions looked at from the last one on.
-use Rattle.std.proofs.Common.{◌≡◌, ℕ, ◌+◌, ◌-◌, ◌<◌, ◌≤◌, Bool, true, false, List, [], ◌∷◌, ◌++◌, length, get_or, take, drop, reverse, Option, Some, None, refl, ap, sym, ◌∙◌, inl, inr, arith}
+use Rattle.std.proofs.Common.{◌≡◌, ℕ, ◌+◌, ◌-◌, ◌<◌, ◌≤◌, Bool, true, false, List, [], ◌∷◌, ◌++◌, length, get_or, take, drop, reverse, Option, ap, sym, ◌∙◌, inl, inr, arith}
 use Rattle.std.specs.List.{AllWithin, Contains, filter_map, cons_option}
-use Rattle.std.proofs.lemmas.List.{get_or_default, take_more, length-append, length-reverse, reverse-append, take_all, append_assoc, drop-append-le}
+use Rattle.std.proofs.lemmas.List.{get_or_default, take_more, length-append, length-reverse, reverse-append, append_assoc}
 use Rattle.std.proofs.lemmas.List.Elements.{filter_map-append}
 use Rattle.std.proofs.lemmas.Bool.{cases_lt, cases_eq, true≢false}
 use Rattle.std.proofs.Math.Seq.{drop-append_seam}

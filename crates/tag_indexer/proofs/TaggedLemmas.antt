@@ -1,6 +1,6 @@
 -- The places that rows have under a tag, and that the log has.
-use Rattle.std.proofs.Common.{◌≡◌, ◌⊎◌, ℕ, zero, suc, ◌-◌, ◌<◌, ◌≤◌, Bool, true, false, cond, eqb, ◌&&◌, List, [], ◌∷◌, ◌++◌, take, option_to_list, option_map, ap₂, ◌+◌, length, get_or, refl, ap, sym, ◌∙◌, subst, inl, inr, arith, Option, Some, None, slice_get}
-use Rattle.std.specs.List.{All, Contains, find}
+use Rattle.std.proofs.Common.{◌≡◌, ◌⊎◌, ℕ, zero, suc, ◌-◌, ◌<◌, ◌≤◌, Bool, true, false, cond, eqb, ◌&&◌, List, [], ◌∷◌, ◌++◌, take, option_to_list, option_map, ap₂, ◌+◌, length, refl, ap, sym, ◌∙◌, subst, inl, inr, arith, Option, Some, None, slice_get}
+use Rattle.std.specs.List.{Contains, find}
 use Rattle.std.proofs.lemmas.List.{take_more, length-take-le}
 use Rattle.std.proofs.lemmas.List.Elements.{All-contains}
 use Rattle.std.proofs.lemmas.Option.{same_Some, get_or_from_slice_get}
@@ -11,7 +11,7 @@ use Rattle.abstract_log.specs.Answers.{has_tag, places_with, place_at}
 use Rattle.flstore_rounds.specs.Heads.{head, IsBelowMark}
 use Rattle.flstore_rounds.proofs.HeadLemmas.{head_below}
 use Rattle.tag_indexer.specs.declared.post.Post.{Post}
-use Rattle.tag_indexer.specs.Rows.{has_home, home, is_tagged, post_of, tagged_row, tagged_places}
+use Rattle.tag_indexer.specs.Rows.{home, is_tagged, post_of, tagged_row, tagged_places}
 use Rattle.tag_indexer.specs.Indexers.{IndexerState}
 use Rattle.tag_indexer.specs.Indexed.{IsIndexed, IsRowOf}
 use Rattle.tag_indexer.proofs.NewestLemmas.{tag_at_home}

@@ -4,7 +4,7 @@ use Rattle.std.specs.List.{AllPairs}
 use Rattle.std.specs.List.Sorted.{IsNonDecreasingBy}
 use Rattle.causal_deps.specs.declared.answers.Newest.{Newest}
 use Rattle.causal_deps.specs.declared.answers.Newest.TheVariants.{Behind, Found, Absent}
-use Rattle.flstore_rounds.specs.Epochs.{EpochList, owner, longer, later_than}
+use Rattle.flstore_rounds.specs.Epochs.{EpochList, owner, later_than}
 use Rattle.flstore_rounds.specs.Heads.{Pair, blank, head, mark_at, with_own, IsBelowMark}
 use Rattle.tag_indexer.specs.declared.post.Post.{Post}
 use Rattle.tag_indexer.specs.Rows.{has_home, newest_row, rows_in}

@@ -155,14 +155,7 @@ impl Indexer {
         if covered < s {
             return Err(LastFault::Behind { covered });
         }
-        match last_tagged(
-            self.alloc(),
-            &self.rows,
-            &self.tagged,
-            tag,
-            count,
-            s,
-        ) {
+        match last_tagged(self.alloc(), &self.rows, &self.tagged, tag, count, s) {
             Ok(places) => Ok(places),
             Err(_) => Err(LastFault::NoMemory),
         }

@@ -1,4 +1,4 @@
-use Rattle.std.proofs.Common.{◌≡◌, ℕ, ◌≤◌, ◌*◌, take, sum}
+use Rattle.std.proofs.Common.{◌≡◌, ◌≤◌, ◌*◌, take, sum}
 use Rattle.tag_indexer.proofs.post.home.Given as goal
 
 abbrev pub invariant-loop-byte : goal.invariant-loop-byte

@@ -1,4 +1,4 @@
-use Rattle.std.proofs.Common.{◌≤◌, ◌-◌, sym, ◌∙◌, arith}
+use Rattle.std.proofs.Common.{◌-◌, sym, ◌∙◌, arith}
 use Rattle.std.proofs.lemmas.List.Elements.{Contains-get_or}
 use Rattle.tag_indexer.specs.TagIndexes.{has_put_at}
 use Rattle.tag_indexer.proofs.ScanLemmas.{scan_more, scan_last}

@@ -1,4 +1,4 @@
-use Rattle.std.proofs.Common.{◌≡◌, IfOk, List, ap, ◌∙◌, subst}
+use Rattle.std.proofs.Common.{◌≡◌, IfOk, List, subst}
 use Rattle.causal_deps.specs.declared.record.Place.{Place}
 use Rattle.abstract_log.specs.Answers.{last_of}
 use Rattle.tag_indexer.proofs.AnswerLemmas.{places_are, tagged_among}

@@ -1,4 +1,3 @@
-use Rattle.std.specs.List.{All}
 use Rattle.std.proofs.lemmas.List.Elements.{All-weaker}
 use Rattle.tag_indexer.specs.TagIndexes.{IsRowListed}
 use Rattle.tag_indexer.proofs.ListedLemmas.{All-take_more, All-whole, listed_more}

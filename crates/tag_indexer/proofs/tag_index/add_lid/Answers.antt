@@ -1,4 +1,4 @@
-use Rattle.std.proofs.Common.{◌≤◌, length, subst, sym, arith, Err}
+use Rattle.std.proofs.Common.{subst, sym, Err}
 use Rattle.std.specs.List.{Contains}
 use Rattle.std.proofs.lemmas.List.Sorted.{searched}
 use Rattle.tag_indexer.specs.TagIndexes.{AreLidsRising}

@@ -1,8 +1,8 @@
-use Rattle.std.proofs.Common.{◌≡◌, ℕ, max, set, List, All, refl, ap, sym, ◌∙◌, subst, IsTrue, rules}
-use Rattle.flstore_rounds.specs.Heads.{IsTruePair, mark_at}
+use Rattle.std.proofs.Common.{ℕ, set, List, All, refl, ap, sym, ◌∙◌, subst, IsTrue}
+use Rattle.flstore_rounds.specs.Heads.{IsTruePair}
 use Rattle.tag_indexer.specs.declared.post.Post.{Post}
 use Rattle.tag_indexer.specs.Rows.{has_home, rows_in}
-use Rattle.tag_indexer.specs.Indexers.{IndexerState, AreKept, posted}
+use Rattle.tag_indexer.specs.Indexers.{IndexerState, AreKept}
 use Rattle.tag_indexer.specs.Indexed.{IsIndexed}
 use Rattle.tag_indexer.specs.TagIndexes.{IsRowListed}
 use Rattle.std.specs.List.{filter}

@@ -1,4 +1,4 @@
-use Rattle.std.proofs.Common.{leb, leb-true, leb-false, ap, sym, ◌∙◌, subst, rules, arith}
+use Rattle.std.proofs.Common.{leb, leb-true, leb-false, ap, sym, ◌∙◌, subst, rules}
 use Rattle.std.specs.List.{Contains}
 use Rattle.std.proofs.lemmas.List.Sorted.{IsPartitionPoint-from_clause, IsPartitionedBy-leb}
 use Rattle.tag_indexer.specs.TagIndexes.{AreLidsRising}
