@@ -100,10 +100,11 @@ is_agreed z = list_all (λ x. list_all (λ y. same_counts x.token.counts y.token
 abbrev pub is_unfinished : Stages → Bool
 is_unfinished z = is_answering z || not (is_agreed z)
 
--- a local round of each datacentre, then an exchange
+-- all errands that the stages have
 abbrev pub exchange_turns : Workload → Stages → List Step
 exchange_turns load z = exchange load z (errands z)
 
+-- a local round of each datacentre, then an exchange
 abbrev pub telling_rounds : Workload → Stages → List Step
 telling_rounds load z = all_rounds z ++ exchange_turns load (after_steps load z (all_rounds z))
 
