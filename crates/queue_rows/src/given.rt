@@ -107,7 +107,7 @@ pub fn items_of(alloc: Global, given: &[Given]) -> Result<Seq<Item>, NoMemory>
 }
 
 // A queue that has the token of a datacentre, where maintainers own the positions one by one in turn.
-pub fn holder(alloc: Global, home: u32, maintainers: u32) -> Result<Queue, NoMemory> {
+pub(crate) fn holder(alloc: Global, home: u32, maintainers: u32) -> Result<Queue, NoMemory> {
     let members = maintainers.clamp(1, 16);
     let mut queue = Queue::new(alloc, 0, Epochs::first(alloc, 1, members)?)?;
     queue.hold(Token::first(alloc, dc(home), DCS, 2, Epochs::first(alloc, 1, members)?));
@@ -116,7 +116,7 @@ pub fn holder(alloc: Global, home: u32, maintainers: u32) -> Result<Queue, NoMem
 
 // The token's numbers, zeros where the queue does not have it: the records of each host, the last
 // position, and how many items are deferred.
-pub fn numbers(queue: &Queue) -> ([u64; 3], Lid, usize) {
+pub(crate) fn numbers(queue: &Queue) -> ([u64; 3], Lid, usize) {
     match queue.token() {
         Some(token) if token.counts().dcs() == DCS => {
             let counts = token.counts();
