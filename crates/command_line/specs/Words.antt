@@ -2,7 +2,8 @@
 use Rattle.std.specs.Prelude.{◌^◌, ◌==◌, ◌&&◌, ℕ, Bool, nat_lt, List, [], ◌∷◌, length, Option, Some, None, option_map, if◌then◌else◌, codes, bytes_eq}
 use Rattle.std.specs.Str.Parse.{digits_value}
 use Rattle.std.specs.Fmt.{decimal}
-use Rattle.clap.specs.Words.{fault_of, first_of, matches_of}
+use Rattle.std.specs.Borrow.{Bor}
+use Rattle.clap.specs.Words.{Row, fault_of, first_of, matches_of}
 use Rattle.command_line.specs.Command.{command}
 use Rattle.command_line.specs.declared.task.Form.{Form}
 use Rattle.command_line.specs.declared.task.Form.TheVariants.{Full, Logs, Summary, Json}
@@ -10,12 +11,27 @@ use Rattle.command_line.specs.declared.task.Task.{Task}
 use Rattle.command_line.specs.declared.task.Task.TheVariants.{Replay, Generate}
 
 -- the command takes the words: no kind of error is theirs
-abbrev pub are_taken : List (List ℕ) → Bool
+unfoldable pub are_taken : List (List ℕ) → Bool
 are_taken words = length (fault_of command words) == 0
 
--- the value that the command finds for one of its arguments
-abbrev pub value_of : List ℕ → List (List ℕ) → Option (List ℕ)
-value_of argument words = first_of argument (matches_of command words)
+-- what the command finds among the words
+unfoldable pub found_in : List (List ℕ) → List Row
+found_in words = matches_of command words
+
+-- the text behind a reference, if there is one
+abbrev pub text_behind : Option (Bor (List ℕ)) → Option (List ℕ)
+text_behind = option_map (λ text. text.now)
+
+-- the text that stands for one of its arguments
+abbrev pub text_of : List ℕ → List (List ℕ) → Option (List ℕ)
+text_of argument words = first_of argument (found_in words)
+
+-- the name of a form
+abbrev pub form_name : Form → List ℕ
+form_name Full = codes "full"
+form_name Logs = codes "logs"
+form_name Summary = codes "summary"
+form_name Json = codes "json"
 
 -- the form with this name
 abbrev pub form_named : List ℕ → Option Form
@@ -57,5 +73,5 @@ task_from (Some mode) number form = task_in_mode mode number form
 -- the task that the words ask for, if they ask for one
 unfoldable pub task_of : List (List ℕ) → Option Task
 task_of words = if are_taken words
-    then task_from (value_of (codes "mode") words) (value_of (codes "number") words) (value_of (codes "form") words)
+    then task_from (text_of (codes "mode") words) (text_of (codes "number") words) (text_of (codes "form") words)
     else None

@@ -1,7 +1,7 @@
-ghost use Rattle.std.specs.Prelude.{◌≡◌, ◌↔◌, List, Some, None, true, false, IfOk, IfErr, IsTrue, option_map, bytes_eq, codes};
-ghost use Rattle.clap.specs.Words.{app_of, found_of, kind_of, matches_of, rows_of};
+ghost use Rattle.std.specs.Prelude.{◌≡◌, ◌≢◌, ◌⊎◌, ◌<◌, Some, None, true, false, IfOk, IfErr, IsTrue, length, slice_index};
+ghost use Rattle.clap.specs.Words.{app_of, found_of, kind_of, rows_of};
 ghost use Rattle.command_line.specs.Command.{command};
-ghost use Rattle.command_line.specs.Words.{are_taken, form_asked, form_named, generate_of, replay_of, seed_of, task_from, task_of};
+ghost use Rattle.command_line.specs.Words.{are_taken, found_in, form_asked, generate_of, replay_of, seed_of, task_from, task_of, text_behind};
 ghost use Rattle.command_line.specs.declared.task.WordsFault.TheVariants.{NotValid};
 
 use crate::task::{Form, Task, WordsFault};
@@ -29,7 +29,7 @@ pub fn read_words(alloc: Global, words: &[Word]) -> Result<Task, WordsFault>
 // What stands for the arguments of the command.
 fn find_arguments<'a>(alloc: Global, words: &'a [Word]) -> Result<ArgMatches<'a>, WordsFault>
     ensures taken { IfOk result (λ matches. are_taken words.now ≡ true) }
-    ensures found { IfOk result (λ matches. rows_of (found_of matches) ≡ matches_of command words.now) }
+    ensures found { IfOk result (λ matches. rows_of (found_of matches) ≡ found_in words.now) }
     ensures refused { IfErr result (λ fault. fault ≡ NotValid → are_taken words.now ≡ false) }
 {
     let command = new_command(alloc)?;
@@ -55,7 +55,7 @@ fn new_command<'a>(alloc: Global) -> Result<Command<'a>, AllocError>
 
 // The task of what stands for the arguments.
 fn read_task(mode: Option<&str>, number: Option<&str>, form: Option<&str>) -> Option<Task>
-    ensures { result ≡ task_from (option_map (λ text. text.now) mode) (option_map (λ text. text.now) number) (option_map (λ text. text.now) form) }
+    ensures { result ≡ task_from (text_behind mode.entry) (text_behind number.entry) (text_behind form.entry) }
 {
     match mode {
         Some("replay") => read_replay(number, form),
@@ -65,7 +65,7 @@ fn read_task(mode: Option<&str>, number: Option<&str>, form: Option<&str>) -> Op
 }
 
 fn read_replay(number: Option<&str>, form: Option<&str>) -> Option<Task>
-    ensures { result ≡ replay_of (option_map (λ text. text.now) number) (option_map (λ text. text.now) form) }
+    ensures { result ≡ replay_of (text_behind number.entry) (text_behind form.entry) }
 {
     if number.is_some() {
         return None;
@@ -75,7 +75,7 @@ fn read_replay(number: Option<&str>, form: Option<&str>) -> Option<Task>
 }
 
 fn read_generate(number: Option<&str>, form: Option<&str>) -> Option<Task>
-    ensures { result ≡ generate_of (option_map (λ text. text.now) number) (option_map (λ text. text.now) form) }
+    ensures { result ≡ generate_of (text_behind number.entry) (text_behind form.entry) }
 {
     if form.is_some() {
         return None;
@@ -86,7 +86,7 @@ fn read_generate(number: Option<&str>, form: Option<&str>) -> Option<Task>
 
 // The form that is asked for: the logs, if none is named.
 fn read_form(name: Option<&str>) -> Option<Form>
-    ensures { result ≡ form_asked (option_map (λ text. text.now) name) }
+    ensures { result ≡ form_asked (text_behind name.entry) }
 {
     match name {
         None => Some(Form::Logs),
@@ -108,8 +108,12 @@ fn read_seed(text: &str) -> Option<u64>
     text.parse::<u64>().ok()
 }
 
-// Whether no sign and no leading zero stands before a number.
-fn begins_a_number(text: &[u8]) -> bool {
+// Whether neither a sign nor a needless zero stands first.
+fn begins_a_number(text: &[u8]) -> bool
+    ensures sign { IsTrue result → slice_index text.now 0 ≢ 43 }
+    ensures zero { IsTrue result → slice_index text.now 0 ≡ 48 → length text.now ≡ 1 }
+    ensures other { result ≡ false → (slice_index text.now 0 ≡ 43) ⊎ ((slice_index text.now 0 ≡ 48) × (1 < length text.now)) }
+{
     match text {
         [b'+', ..] => false,
         [b'0', _, ..] => false,
