@@ -1,0 +1,14 @@
+//! The words of the command line: from the texts that follow the program's own name to the task that they ask for.
+//!
+//! The words are read as one simple `clap` command with a mode, a number and a form. Contracts see them as a list of
+//! texts. The theorem for the layer above is the contract of `read_words`: it answers exactly the task that
+//! `task_of` gives, and refuses only words that ask for none, want of memory apart. The laws in `laws` show what
+//! `task_of` says of the words that are in use.
+#![tactic(auto)]
+
+mod arguments;
+mod laws;
+mod task;
+
+pub use arguments::read_words;
+pub use task::{Form, Task, WordsFault};
