@@ -1,0 +1,85 @@
+ghost use Rattle.std.specs.Prelude.{◌≡◌, All, IfOk};
+ghost use Rattle.abstract_log.specs.Fits.{FitsScript};
+ghost use Rattle.script_text.specs.Spelled.{IsBuiltCommand, IsBuiltStep};
+ghost use Rattle.script_text.specs.Steps.{FitsStep};
+ghost use Rattle.script_generator.specs.Draws.{many};
+ghost use Rattle.script_generator.specs.Generated.{generated, plan, step};
+
+use crate::commands::plan;
+use crate::draws::Draws;
+use crate::steps::step;
+use abstract_log::{Script, SessionPlan, Sizes, Step, Workload};
+use cz_base::{NoMemory, Seq};
+use std::alloc::Global;
+
+const DATACENTRES: u32 = 3;
+
+const SESSIONS: u32 = 12;
+
+const ROUND: u32 = 4;
+
+const STEPS: u32 = 20_000;
+
+const SIZES: Sizes = Sizes {
+    batchers: 2,
+    filters: 2,
+    queues: 2,
+    maintainers: 3,
+    indexers: 2,
+    senders: 2,
+    receivers: 2,
+};
+
+/// The script that a number gives: 3 datacentres, 12 sessions with 100 commands each, and 20,000 steps.
+pub fn generate(alloc: Global, seed: u64) -> Result<Script, NoMemory>
+    ensures script { IfOk result (λ script. script ≡ generated seed) }
+
+    // It keeps the ranges of scripts.
+    ensures fits { IfOk result FitsScript }
+
+    // Each step is one that a script may have: its session and datacentres are there, a link is
+    // between two, and its numbers are in their ranges.
+    ensures steps { IfOk result (λ script. All (FitsStep script.workload) script.steps) }
+
+    // It has no steps that add members.
+    ensures built { IfOk result (λ script. All (λ plan. All IsBuiltCommand plan.commands) script.workload.sessions × All IsBuiltStep script.steps) }
+{
+    let mut draws = Draws::new(seed);
+    let sessions = sessions(alloc, &mut draws)?;
+    let steps = steps(alloc, &mut draws)?;
+    let mut sizes = Seq::new(alloc);
+    for _datacentre in 0..DATACENTRES {
+        sizes.push(SIZES)?;
+    }
+    Ok(Script {
+        workload: Workload {
+            dcs: DATACENTRES,
+            sessions,
+        },
+        round: ROUND,
+        sizes,
+        steps,
+    })
+}
+
+// The sessions.
+fn sessions(alloc: Global, draws: &mut Draws) -> Result<Seq<SessionPlan>, NoMemory>
+    ensures { IfOk result (λ made. (made, draws.new) ≡ many plan 12 draws.old) }
+{
+    let mut sessions = Seq::new(alloc);
+    for s in 0..SESSIONS {
+        sessions.push(plan(alloc, draws, s)?)?;
+    }
+    Ok(sessions)
+}
+
+// The steps.
+fn steps(alloc: Global, draws: &mut Draws) -> Result<Seq<Step>, NoMemory>
+    ensures { IfOk result (λ made. (made, draws.new) ≡ many (λ _. step) 20000 draws.old) }
+{
+    let mut steps = Seq::new(alloc);
+    for _step in 0..STEPS {
+        steps.push(step(draws))?;
+    }
+    Ok(steps)
+}
