@@ -59,7 +59,10 @@ fn read<S: Source>(alloc: Global, source: &mut S) -> Result<Script, Refusal>
     };
     match read_script(alloc, &bytes) {
         Ok(script) => Ok(script),
-        Err(ScriptFault::Bad { line, cause }) => Err(Refusal::Script(bad_line(alloc, line, cause)?)),
+        Err(ScriptFault::Bad { line, cause }) => {
+            let told = bad_line(alloc, line, cause)?;
+            Err(Refusal::Script(told))
+        }
         Err(ScriptFault::NoMemory) => Err(Refusal::NoMemory),
     }
 }

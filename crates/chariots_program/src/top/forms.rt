@@ -1,6 +1,6 @@
 use super::{plain_run, replay_run};
-use cz_base::{MemSink, MemSource, Seq, SureSink, SureSource, Word};
 use command_line::Form;
+use cz_base::{MemSink, MemSource, Seq, SureSink, SureSource, Word};
 use std::alloc::Global;
 use std::process::Abort;
 use std::test::Fail;
@@ -121,7 +121,11 @@ fn a_generated_script_is_replayed(rt: HostRuntime) -> Result<(), Fail> {
     let first = generated(&rt, alloc, "7")?;
     let again = generated(&rt, alloc, "7")?;
     let other = generated(&rt, alloc, "0")?;
-    assert!(rt; first.written().starts_with(b"datacentres 3\nsessions 12\ncommands 1200\n"));
+    assert!(rt;
+        first
+            .written()
+            .starts_with(b"datacentres 3\nsessions 12\ncommands 1200\n")
+    );
     assert_eq!(rt; first.written(), again.written());
     let same = first.written() == other.written();
     assert!(rt; !same);

@@ -1,4 +1,5 @@
-use super::{SCRIPT_LIMIT, chariots, plain_run};
+use super::{chariots, plain_run};
+use crate::replaying::SCRIPT_LIMIT;
 use cz_base::{MemSink, MemSource, OpenGate, Seq, Word};
 use std::alloc::Global;
 use std::process::Abort;

@@ -14,36 +14,126 @@ struct Case {
 }
 
 const CASES: [Case; 30] = [
-    Case { words: &["replay"], status: 0 },
-    Case { words: &["replay", "--form", "full"], status: 0 },
-    Case { words: &["replay", "--form=full"], status: 0 },
-    Case { words: &["--form", "full", "replay"], status: 0 },
-    Case { words: &["--form=json", "replay"], status: 0 },
-    Case { words: &["replay", "--form", "logs"], status: 0 },
-    Case { words: &["replay", "--form=summary"], status: 0 },
-    Case { words: &["replay", "--"], status: 0 },
-    Case { words: &["gen", "0"], status: 0 },
-    Case { words: &["gen", "--", "7"], status: 0 },
-    Case { words: &[], status: 2 },
-    Case { words: &[""], status: 2 },
-    Case { words: &["fly"], status: 2 },
-    Case { words: &["Replay"], status: 2 },
-    Case { words: &["replay", "--form"], status: 2 },
-    Case { words: &["replay", "--form", ""], status: 2 },
-    Case { words: &["replay", "--form", "text"], status: 2 },
-    Case { words: &["replay", "--form", "full", "--form", "full"], status: 2 },
-    Case { words: &["replay", "--forms", "full"], status: 2 },
-    Case { words: &["replay", "3"], status: 2 },
-    Case { words: &["replay", "replay"], status: 2 },
-    Case { words: &["--help"], status: 2 },
-    Case { words: &["--version"], status: 2 },
-    Case { words: &["replay", "-h"], status: 2 },
-    Case { words: &["gen"], status: 2 },
-    Case { words: &["gen", "07"], status: 2 },
-    Case { words: &["gen", "+7"], status: 2 },
-    Case { words: &["gen", "18446744073709551616"], status: 2 },
-    Case { words: &["gen", "7", "--form", "json"], status: 2 },
-    Case { words: &["gen", "7", "8"], status: 2 },
+    Case {
+        words: &["replay"],
+        status: 0,
+    },
+    Case {
+        words: &["replay", "--form", "full"],
+        status: 0,
+    },
+    Case {
+        words: &["replay", "--form=full"],
+        status: 0,
+    },
+    Case {
+        words: &["--form", "full", "replay"],
+        status: 0,
+    },
+    Case {
+        words: &["--form=json", "replay"],
+        status: 0,
+    },
+    Case {
+        words: &["replay", "--form", "logs"],
+        status: 0,
+    },
+    Case {
+        words: &["replay", "--form=summary"],
+        status: 0,
+    },
+    Case {
+        words: &["replay", "--"],
+        status: 0,
+    },
+    Case {
+        words: &["gen", "0"],
+        status: 0,
+    },
+    Case {
+        words: &["gen", "--", "7"],
+        status: 0,
+    },
+    Case {
+        words: &[],
+        status: 2,
+    },
+    Case {
+        words: &[""],
+        status: 2,
+    },
+    Case {
+        words: &["fly"],
+        status: 2,
+    },
+    Case {
+        words: &["Replay"],
+        status: 2,
+    },
+    Case {
+        words: &["replay", "--form"],
+        status: 2,
+    },
+    Case {
+        words: &["replay", "--form", ""],
+        status: 2,
+    },
+    Case {
+        words: &["replay", "--form", "text"],
+        status: 2,
+    },
+    Case {
+        words: &["replay", "--form", "full", "--form", "full"],
+        status: 2,
+    },
+    Case {
+        words: &["replay", "--forms", "full"],
+        status: 2,
+    },
+    Case {
+        words: &["replay", "3"],
+        status: 2,
+    },
+    Case {
+        words: &["replay", "replay"],
+        status: 2,
+    },
+    Case {
+        words: &["--help"],
+        status: 2,
+    },
+    Case {
+        words: &["--version"],
+        status: 2,
+    },
+    Case {
+        words: &["replay", "-h"],
+        status: 2,
+    },
+    Case {
+        words: &["gen"],
+        status: 2,
+    },
+    Case {
+        words: &["gen", "07"],
+        status: 2,
+    },
+    Case {
+        words: &["gen", "+7"],
+        status: 2,
+    },
+    Case {
+        words: &["gen", "18446744073709551616"],
+        status: 2,
+    },
+    Case {
+        words: &["gen", "7", "--form", "json"],
+        status: 2,
+    },
+    Case {
+        words: &["gen", "7", "8"],
+        status: 2,
+    },
 ];
 
 fn ends(rt: &impl Abort, alloc: Global, case: &Case) -> Result<(), Fail> {
