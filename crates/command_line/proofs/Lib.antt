@@ -1,3 +1,5 @@
 pub mod Taken
 pub mod Seeds
 pub mod Examples
+pub mod Tasks
+pub mod Plain

@@ -11,4 +11,8 @@ mod laws;
 mod task;
 
 pub use arguments::read_words;
+pub use laws::{
+    gen_takes_a_seed, gen_takes_no_more, other_words_ask_for_nothing, replay_takes_a_form,
+    replay_takes_no_more, replay_writes_logs, words_stand_after_dashes,
+};
 pub use task::{Form, Task, WordsFault};
