@@ -3,3 +3,4 @@ pub mod Seeds
 pub mod Examples
 pub mod Tasks
 pub mod Plain
+pub mod Walks
