@@ -4,3 +4,4 @@ pub mod Examples
 pub mod Tasks
 pub mod Plain
 pub mod Walks
+pub mod AskedLemmas

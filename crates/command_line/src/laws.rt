@@ -1,8 +1,11 @@
 //! What the words in use ask for. Each law is a function that does nothing: its contract is the law.
-ghost use Rattle.std.specs.Prelude.{◌≡◌, [], ◌∷◌, ◌++◌, List, ℕ, Some, None, codes};
-ghost use Rattle.command_line.specs.Words.{form_name, task_in_mode, task_of};
+ghost use Rattle.std.specs.Prelude.{◌≡◌, ◌≢◌, ◌<◌, ◌^◌, [], ◌∷◌, ◌++◌, List, ℕ, Some, None, true, false, codes};
+ghost use Rattle.std.specs.Fmt.{decimal};
+ghost use Rattle.command_line.specs.Words.{are_taken, begins_with_hyphen, form_name, task_in_mode, task_of, text_of};
+ghost use Rattle.command_line.specs.Asked.{IsAskedBy};
 ghost use Rattle.command_line.specs.declared.task.Form.{Form};
 ghost use Rattle.command_line.specs.declared.task.Form.TheVariants.{Logs};
+ghost use Rattle.command_line.specs.declared.task.Task.{Task};
 ghost use Rattle.command_line.specs.declared.task.Task.TheVariants.{Replay, Generate};
 
 /// `replay` is a replay, of which the logs are written where no form is named.
@@ -58,4 +61,23 @@ pub fn words_stand_after_dashes()
     ensures number { (mode number : List ℕ) → task_of (codes "--" ∷ mode ∷ number ∷ []) ≡ task_in_mode mode (Some number) None }
     ensures more { (mode number next : List ℕ) (more : List (List ℕ)) → task_of (codes "--" ∷ mode ∷ number ∷ next ∷ more) ≡ None }
     ensures form { (name mode : List ℕ) → task_of ((codes "--form=" ++ name) ∷ codes "--" ∷ mode ∷ []) ≡ task_in_mode mode None (Some name) }
+{}
+
+/// Words that begin with no hyphen are taken as they are: a mode and then a number, and no more.
+pub fn plain_words_stand_for_themselves()
+    ensures mode { (mode : List ℕ) → begins_with_hyphen mode ≡ false → task_of (mode ∷ []) ≡ task_in_mode mode None None }
+    ensures number { (mode number : List ℕ) → begins_with_hyphen mode ≡ false → begins_with_hyphen number ≡ false → task_of (mode ∷ number ∷ []) ≡ task_in_mode mode (Some number) None }
+    ensures more { (mode number next : List ℕ) (more : List (List ℕ)) → begins_with_hyphen mode ≡ false → begins_with_hyphen number ≡ false → begins_with_hyphen next ≡ false → task_of (mode ∷ number ∷ next ∷ more) ≡ None }
+    ensures lone { (word : List ℕ) → begins_with_hyphen word ≡ false → word ≢ codes "replay" → task_of (word ∷ []) ≡ None }
+{}
+
+/// `gen` with the decimal text of any number of 64 bits is the task with that seed.
+pub fn gen_takes_every_seed()
+    ensures { (seed : ℕ) → seed < 2 ^ 64 → task_of (codes "gen" ∷ decimal seed ∷ []) ≡ Some (Generate seed) }
+{}
+
+/// Words ask for a task exactly where the command takes them and what it finds among them asks for it.
+pub fn tasks_are_as_asked()
+    ensures asked { (words : List (List ℕ)) (task : Task) → task_of words ≡ Some task → (are_taken words ≡ true) × IsAskedBy task (text_of (codes "mode") words) (text_of (codes "number") words) (text_of (codes "form") words) }
+    ensures task { (words : List (List ℕ)) (task : Task) → are_taken words ≡ true → IsAskedBy task (text_of (codes "mode") words) (text_of (codes "number") words) (text_of (codes "form") words) → task_of words ≡ Some task }
 {}
