@@ -7,7 +7,7 @@ use Rattle.std.specs.Str.Parse.{digits_value}
 use Rattle.std.specs.Fmt.{decimal}
 use Rattle.std.proofs.lemmas.Slice.Eq.{bytes_eq-Decides}
 use Rattle.clap.proofs.WalkLemmas.{both}
-use Rattle.command_line.specs.Words.{are_taken, begins_with_hyphen, form_asked, generate_of, replay_of, seed_of, task_from, task_in_mode, task_of, text_of}
+use Rattle.command_line.specs.Words.{are_taken, begins_with_hyphen, form_asked, generate_of, replay_of, seed_of, task_from, task_of, text_of}
 use Rattle.command_line.specs.Asked.{IsAskedBy}
 use Rattle.command_line.specs.declared.task.Form.{Form}
 use Rattle.command_line.specs.declared.task.Task.{Task}

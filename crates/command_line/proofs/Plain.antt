@@ -1,5 +1,5 @@
 -- Words of which `clap` takes each as it is.
-use Rattle.std.proofs.Common.{◌≡◌, ℕ, false, refl, codes, List, [], ◌∷◌, ◌++◌, Some, None, nat_eq}
+use Rattle.std.proofs.Common.{◌≡◌, ℕ, refl, codes, List, [], ◌∷◌, ◌++◌, Some, None}
 use Rattle.clap.proofs.OnLiterals.{clap_on_literals}
 use Rattle.command_line.specs.Words.{are_taken, found_in, task_in_mode, task_of}
 

@@ -1,8 +1,9 @@
 -- The task of what is found.
-use Rattle.std.proofs.Common.{◌≡◌, ◌∙◌, true, false, refl, sym, ap, subst, codes, List, Option, None, Result}
-use Rattle.std.specs.Result.{IfErr, IsErrAnd}
+use Rattle.std.proofs.Common.{◌≡◌, ◌∙◌, true, false, refl, sym, ap, subst, codes, List, Option, Some, None, Result}
+use Rattle.std.specs.Result.{IfErr, IfOk, IsErrAnd}
+use Rattle.std.specs.Option.{ok_or}
 use Rattle.std.proofs.lemmas.Result.{err_from_is_err_and}
-use Rattle.clap.specs.Words.{Row, Text, first_of, first_value, found_of, rows_of}
+use Rattle.clap.specs.Words.{Text, first_of, first_value, rows_of}
 use Rattle.clap.specs.declared.parser.matches.Found.{Found}
 use Rattle.clap.proofs.WalkLemmas.{first_value-rows}
 use Rattle.command_line.specs.Words.{are_taken, found_in, task_from, task_of, text_of}
@@ -34,3 +35,13 @@ pub task_is : (words : List Text) (mode number form : Option Text) (task : Optio
     → task ≡ task_from mode number form → task_of words ≡ task
 unfolding task_of
 task_is words mode number form task taken mode_is number_is form_is is = rw (taken, is, mode_is, number_is, form_is) refl
+
+-- and that is told, or that there is none
+pub told : (words : List Text) (task : Option Task) (result : Result Task WordsFault) → task_of words ≡ task → result ≡ ok_or task NotValid
+    → IfOk result (λ found. task_of words ≡ Some found) × IfErr result (λ fault. fault ≡ NotValid → task_of words ≡ None)
+told words None result is gives =
+    let wanted : Result Task WordsFault → Type 0 = λ x. IfOk x (λ found. task_of words ≡ Some found) × IfErr x (λ fault. fault ≡ NotValid → task_of words ≡ None) in
+    subst wanted (sym gives) (tt, λ fault. is)
+told words (Some task) result is gives =
+    let wanted : Result Task WordsFault → Type 0 = λ x. IfOk x (λ found. task_of words ≡ Some found) × IfErr x (λ fault. fault ≡ NotValid → task_of words ≡ None) in
+    subst wanted (sym gives) (is, tt)

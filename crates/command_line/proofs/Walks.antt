@@ -1,14 +1,14 @@
 -- The walk over words that begin with no hyphen.
-use Rattle.std.proofs.Common.{◌≡◌, ◌∙◌, ◌<◌, ◌≤◌, ◌^◌, ℕ, Bool, true, false, zero, suc, refl, sym, ap, ap₂, arith, codes, List, [], ◌∷◌, ◌++◌, length, get_or, Option, Some, None, nat_eq}
+use Rattle.std.proofs.Common.{◌≡◌, ◌∙◌, ◌<◌, ◌≤◌, ◌^◌, ℕ, false, zero, suc, refl, sym, ap, ap₂, arith, codes, List, [], ◌∷◌, length, get_or, Some, None, nat_eq}
 use Rattle.std.specs.Prelude.{is_some}
 use Rattle.std.specs.Str.{bytes_eq}
 use Rattle.std.specs.Fmt.{decimal, digits}
 use Rattle.std.proofs.lemmas.Bool.Decides.{nat_tests}
-use Rattle.std.proofs.lemmas.Fmt.{first_decimal, decimal_nonempty}
+use Rattle.std.proofs.lemmas.Fmt.{first_decimal}
 use Rattle.clap.specs.Lexer.{long_of, short_of}
 use Rattle.clap.specs.Kinds.{Kinds, or_else}
-use Rattle.clap.specs.Words.{Row, Rule, Shape, Text, built, fault_of, first_of}
-use Rattle.clap.specs.Walk.{Held, Step, Walk, after_step, arg_by_index, finished, idle, nothing_held, settled, to_positional, value, walk, walk_from, walked, word_met}
+use Rattle.clap.specs.Words.{Rule, Shape, Text, built, fault_of, first_of}
+use Rattle.clap.specs.Walk.{Held, Step, Walk, after_step, arg_by_index, finished, idle, nothing_held, settled, to_positional, value, walk, walked, word_met}
 use Rattle.clap.specs.Simple.{entered}
 use Rattle.clap.specs.Faults.{check_fault, defaults_fault, entered_fault, settle_fault, step_fault, turn_fault, walk_fault}
 use Rattle.clap.specs.declared.error.kind.ErrorKind.TheVariants.{UnknownArgument}

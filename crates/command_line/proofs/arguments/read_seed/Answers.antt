@@ -1,4 +1,4 @@
-use Rattle.std.proofs.Common.{◌≡◌, ◌∙◌, false, rules}
+use Rattle.std.proofs.Common.{◌∙◌, rules}
 use Rattle.command_line.proofs.Seeds.{no_seed_by_first, seed_read}
 use Rattle.command_line.proofs.arguments.read_seed.Goals as goal
 
