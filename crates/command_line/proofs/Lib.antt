@@ -5,3 +5,4 @@ pub mod Tasks
 pub mod Plain
 pub mod Walks
 pub mod AskedLemmas
+pub mod Hyphens

@@ -10,7 +10,7 @@ use Rattle.clap.specs.Kinds.{Kinds, or_else}
 use Rattle.clap.specs.Words.{Rule, Shape, Text, built, fault_of, first_of}
 use Rattle.clap.specs.Walk.{Held, Step, Walk, after_step, arg_by_index, finished, idle, nothing_held, settled, to_positional, value, walk, walked, word_met}
 use Rattle.clap.specs.Simple.{entered}
-use Rattle.clap.specs.Faults.{check_fault, defaults_fault, entered_fault, settle_fault, step_fault, turn_fault, walk_fault}
+use Rattle.clap.specs.Faults.{check_fault, defaults_fault, entered_fault, settle_fault, step_fault, turn_fault, walk_fault, word_fault}
 use Rattle.clap.specs.declared.error.kind.ErrorKind.TheVariants.{UnknownArgument}
 use Rattle.clap.proofs.OnLiterals.{clap_on_literals}
 use Rattle.command_line.specs.Command.{command}
@@ -47,14 +47,14 @@ fails s held position word is = rw (is.dashes, is.long, is.short) refl
 
 -- ---- the command
 
-abbrev top : Shape
+abbrev pub top : Shape
 top = (built command).top
 
-abbrev start : Walk
+abbrev pub start : Walk
 start = at nothing_held 1
 
 -- the kinds of error after a walk that had the first of them
-abbrev level : Kinds → Walk → Kinds
+abbrev pub level : Kinds → Walk → Kinds
 level kinds end = or_else kinds (or_else (entered_fault (built command) end.stopped)
     (or_else (settle_fault top.rules top.args_override_self end.held)
     (or_else (defaults_fault (settled top.rules end.held).rows top.rules)
@@ -82,27 +82,39 @@ two mode number is = goes_on top.rules (after_one mode) 2 number is
 two_fails : (mode number : Text) → IsPlain number → turn_fault top [] (at (after_one mode) 2) number ≡ []
 two_fails mode number is = fails top (after_one mode) 2 number is
 
--- ---- a mode alone
+-- ---- one word that is a mode
 
-one_taken : (mode : Text) → IsPlain mode → fault_of command (mode ∷ []) ≡ []
+one_taken : (mode : Text) → turn_fault top [] start mode ≡ [] → walked top.rules [] start mode ≡ at (after_one mode) 2 → fault_of command (mode ∷ []) ≡ []
 unfolding clap_on_literals
-one_taken mode is = ap₂ level (ap (λ (kinds : Kinds). or_else kinds []) (one_fails mode is)) (one mode is)
+one_taken mode fails is = ap₂ level (ap (λ (kinds : Kinds). or_else kinds []) fails) is
 
-one_found : (mode : Text) → IsPlain mode → found_in (mode ∷ []) ≡ finished top.rules (after_one mode)
+one_found : (mode : Text) → walked top.rules [] start mode ≡ at (after_one mode) 2 → found_in (mode ∷ []) ≡ finished top.rules (after_one mode)
 unfolding found_in
-one_found mode is = ap (λ (end : Walk). finished top.rules end.held) (one mode is)
+one_found mode is = ap (λ (end : Walk). finished top.rules end.held) is
 
--- the mode stands for itself
-pub plain_one : (mode : Text) → begins_with_hyphen mode ≡ false → task_of (mode ∷ []) ≡ task_in_mode mode None None
+one_task : (mode : Text) → turn_fault top [] start mode ≡ [] → walked top.rules [] start mode ≡ at (after_one mode) 2
+    → task_of (mode ∷ []) ≡ task_in_mode mode None None
 unfolding are_taken
-plain_one mode begins =
-    let is = plain mode begins in
+one_task mode fails is =
     let found = one_found mode is in
     task_is (mode ∷ []) (Some mode) None None (task_in_mode mode None None)
-    (ap (λ (kinds : Kinds). nat_eq (length kinds) 0) (one_taken mode is))
+    (ap (λ (kinds : Kinds). nat_eq (length kinds) 0) (one_taken mode fails is))
     (sym (ap (first_of (codes "mode")) found))
     (sym (ap (first_of (codes "number")) found))
     (sym (ap (first_of (codes "form")) found)) refl
+
+-- the mode stands for itself
+pub plain_one : (mode : Text) → begins_with_hyphen mode ≡ false → task_of (mode ∷ []) ≡ task_in_mode mode None None
+plain_one mode begins = let is = plain mode begins in one_task mode (one_fails mode is) (one mode is)
+
+-- so does a word that is no flag
+pub positional_one : (word : Text) → word_fault top [] false idle word nothing_held ≡ [] → word_met top.rules [] false idle 1 word nothing_held ≡ (nothing_held, value)
+    → task_of (word ∷ []) ≡ task_in_mode word None None
+unfolding walked
+positional_one word fails is =
+    one_task word
+    (ap₂ (λ (kinds : Kinds) (step : Held × Step). or_else kinds (step_fault top 1 step.0 step.1)) fails is)
+    (ap (λ (step : Held × Step). after_step top.rules word start step.0 step.1) is)
 
 -- ---- a mode and a number
 

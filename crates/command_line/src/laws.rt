@@ -68,7 +68,11 @@ pub fn plain_words_stand_for_themselves()
     ensures mode { (mode : List ℕ) → begins_with_hyphen mode ≡ false → task_of (mode ∷ []) ≡ task_in_mode mode None None }
     ensures number { (mode number : List ℕ) → begins_with_hyphen mode ≡ false → begins_with_hyphen number ≡ false → task_of (mode ∷ number ∷ []) ≡ task_in_mode mode (Some number) None }
     ensures more { (mode number next : List ℕ) (more : List (List ℕ)) → begins_with_hyphen mode ≡ false → begins_with_hyphen number ≡ false → begins_with_hyphen next ≡ false → task_of (mode ∷ number ∷ next ∷ more) ≡ None }
-    ensures lone { (word : List ℕ) → begins_with_hyphen word ≡ false → word ≢ codes "replay" → task_of (word ∷ []) ≡ None }
+{}
+
+/// Of all single words only `replay` asks for anything.
+pub fn lone_words_ask_for_a_replay()
+    ensures { (word : List ℕ) → word ≢ codes "replay" → task_of (word ∷ []) ≡ None }
 {}
 
 /// `gen` with the decimal text of any number of 64 bits is the task with that seed.

@@ -1,5 +1,4 @@
 use Rattle.command_line.proofs.Walks as walks
-use Rattle.command_line.proofs.AskedLemmas.{lone_word}
 use Rattle.command_line.proofs.laws.plain_words_stand_for_themselves.Goals as goal
 
 pub returns : goal.returns
@@ -7,5 +6,4 @@ returns c = record {
   mode = walks.plain_one;
   number = walks.plain_two;
   more = walks.plain_three;
-  lone = lone_word;
 }
