@@ -1,5 +1,6 @@
 -- What the words in use ask for, by computation.
 use Rattle.std.proofs.Common.{◌≡◌, refl, codes, [], ◌∷◌, ◌++◌, Some, None}
+use Rattle.std.specs.Fmt.{digits}
 use Rattle.clap.proofs.OnLiterals.{clap_on_literals}
 use Rattle.command_line.specs.Words.{are_taken, found_in, form_name, task_of}
 use Rattle.command_line.specs.declared.task.Form.{Form}
@@ -63,35 +64,35 @@ replay_with_number = refl
 -- A generated script.
 
 pub gen_least : task_of (codes "gen" ∷ codes "0" ∷ []) ≡ Some (Generate 0)
-unfolding clap_on_literals task_of are_taken found_in
+unfolding clap_on_literals task_of are_taken found_in digits
 gen_least = refl
 
 pub gen_seven : task_of (codes "gen" ∷ codes "7" ∷ []) ≡ Some (Generate 7)
-unfolding clap_on_literals task_of are_taken found_in
+unfolding clap_on_literals task_of are_taken found_in digits
 gen_seven = refl
 
 pub gen_closed : task_of (codes "gen" ∷ codes "--" ∷ codes "7" ∷ []) ≡ Some (Generate 7)
-unfolding clap_on_literals task_of are_taken found_in
+unfolding clap_on_literals task_of are_taken found_in digits
 gen_closed = refl
 
 pub gen_greatest : task_of (codes "gen" ∷ codes "18446744073709551615" ∷ []) ≡ Some (Generate 18446744073709551615)
-unfolding clap_on_literals task_of are_taken found_in
+unfolding clap_on_literals task_of are_taken found_in digits
 gen_greatest = refl
 
 pub gen_alone : task_of (codes "gen" ∷ []) ≡ None
-unfolding clap_on_literals task_of are_taken found_in
+unfolding clap_on_literals task_of are_taken found_in digits
 gen_alone = refl
 
 pub gen_leading_zero : task_of (codes "gen" ∷ codes "07" ∷ []) ≡ None
-unfolding clap_on_literals task_of are_taken found_in
+unfolding clap_on_literals task_of are_taken found_in digits
 gen_leading_zero = refl
 
 pub gen_too_large : task_of (codes "gen" ∷ codes "18446744073709551616" ∷ []) ≡ None
-unfolding clap_on_literals task_of are_taken found_in
+unfolding clap_on_literals task_of are_taken found_in digits
 gen_too_large = refl
 
 pub gen_with_form : task_of (codes "gen" ∷ codes "7" ∷ codes "--form" ∷ codes "json" ∷ []) ≡ None
-unfolding clap_on_literals task_of are_taken found_in
+unfolding clap_on_literals task_of are_taken found_in digits
 gen_with_form = refl
 
 -- Other words.

@@ -1,3 +1,8 @@
 pub mod Taken
 pub mod Seeds
 pub mod Examples
+pub mod Tasks
+pub mod Plain
+pub mod Walks
+pub mod AskedLemmas
+pub mod Hyphens

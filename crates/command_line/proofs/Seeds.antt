@@ -1,10 +1,10 @@
 -- Seeds and their texts.
-use Rattle.std.proofs.Common.{◌≡◌, ◌∙◌, ◌<◌, ◌≤◌, ◌^◌, ◌&&◌, ℕ, Bool, true, false, zero, suc, refl, sym, ap, cond, arith, inl, inr, List, [], ◌∷◌, length, get_or, Option, Some, None, Result, Ok, Err, nat_eq, nat_lt, lt-ltb, ltb-true}
+use Rattle.std.proofs.Common.{◌≡◌, ◌∙◌, ◌<◌, ◌^◌, ◌&&◌, ℕ, Bool, true, false, zero, suc, refl, sym, ap, cond, arith, inl, inr, List, length, get_or, Some, None, Result, Ok, Err, nat_lt, lt-ltb, ltb-true}
 use Rattle.std.specs.Prelude.{◌⊎◌, ◌≢◌}
 use Rattle.std.specs.Str.{bytes_eq}
 use Rattle.std.specs.Str.Parse.{AllDigits, ParsesUnsigned, digits_value}
-use Rattle.std.specs.Fmt.{decimal}
-use Rattle.std.specs.Result.{OkIff, result_ok}
+use Rattle.std.specs.Fmt.{decimal, digits}
+use Rattle.std.specs.Result.{result_ok}
 use Rattle.std.proofs.lemmas.Slice.Eq.{bytes_eq-Decides}
 use Rattle.std.proofs.lemmas.Str.Parse.{IsNumeralModel, parse_plain}
 use Rattle.std.proofs.lemmas.Fmt.{decimal-digits_value, digits_value-decimal, first_decimal, parse-decimal}
@@ -37,6 +37,7 @@ no_seed text none = go (nat_lt (digits_value 10 text) (2 ^ 64) && bytes_eq (deci
 
 -- a decimal text begins with no sign, and with 0 only where it is `0`
 first_digit : (n : ℕ) → n < 2 ^ 64 → (get_or (decimal n) 0 0 ≡ 43) ⊎ ((get_or (decimal n) 0 0 ≡ 48) × (1 < length (decimal n))) → ⊥
+unfolding digits
 first_digit zero low (inl sign) =
     let first : get_or (decimal 0) 0 0 ≡ 48 = refl in
     absurd (omega (arith, sign, first))

@@ -16,14 +16,10 @@ pub fn read_words(alloc: Global, words: &[Word]) -> Result<Task, WordsFault>
     ensures refused { IfErr result (λ fault. fault ≡ NotValid → task_of words.now ≡ None) }
 {
     let matches = find_arguments(alloc, words)?;
-    match read_task(
-        matches.get_str("mode"),
-        matches.get_str("number"),
-        matches.get_str("form"),
-    ) {
-        Some(task) => Ok(task),
-        None => Err(WordsFault::NotValid),
-    }
+    let mode = matches.get_str("mode");
+    let number = matches.get_str("number");
+    let form = matches.get_str("form");
+    read_task(mode, number, form).ok_or(WordsFault::NotValid)
 }
 
 // What stands for the arguments of the command.

@@ -1,5 +1,8 @@
-use Rattle.command_line.proofs.Examples.{replay_alone}
+use Rattle.command_line.proofs.Examples as example
 use Rattle.command_line.proofs.laws.replay_writes_logs.Goals as goal
 
 pub returns : goal.returns
-returns c = replay_alone
+returns c = record {
+  alone = example.replay_alone;
+  dashes = example.replay_closed;
+}

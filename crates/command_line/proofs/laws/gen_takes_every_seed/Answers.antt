@@ -1,0 +1,5 @@
+use Rattle.command_line.proofs.AskedLemmas.{every_seed}
+use Rattle.command_line.proofs.laws.gen_takes_every_seed.Goals as goal
+
+pub returns : goal.returns
+returns c = every_seed

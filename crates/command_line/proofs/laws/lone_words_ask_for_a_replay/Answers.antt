@@ -1,0 +1,5 @@
+use Rattle.command_line.proofs.Hyphens.{lone}
+use Rattle.command_line.proofs.laws.lone_words_ask_for_a_replay.Goals as goal
+
+pub returns : goal.returns
+returns c = lone
