@@ -47,10 +47,7 @@ pub fn generate(alloc: Global, seed: u64) -> Result<Script, NoMemory>
     let mut draws = Draws::new(seed);
     let sessions = sessions(alloc, &mut draws)?;
     let steps = steps(alloc, &mut draws)?;
-    let mut sizes = Seq::new(alloc);
-    for _datacentre in 0..DATACENTRES {
-        sizes.push(SIZES)?;
-    }
+    let sizes = Seq::from_vec(vec![in alloc; SIZES, SIZES, SIZES]?);
     Ok(Script {
         workload: Workload {
             dcs: DATACENTRES,

@@ -25,20 +25,65 @@ fn step_by(draws: &mut Draws, d: DcId, choice: u32) -> Step
 {
     match choice {
         0..=1 => Step::Client { s: draws.draw(12) },
-        2 => Step::Flush { d, b: draws.draw(2) },
-        3 => Step::Pass { d, f: draws.draw(2), q: draws.draw(2) },
-        4 => Step::Stamp { d, q: draws.draw(2) },
+        2 => Step::Flush {
+            d,
+            b: draws.draw(2),
+        },
+        3 => Step::Pass {
+            d,
+            f: draws.draw(2),
+            q: draws.draw(2),
+        },
+        4 => Step::Stamp {
+            d,
+            q: draws.draw(2),
+        },
         5 => Step::Token { d },
-        6 => Step::Place { d, q: draws.draw(2), m: draws.draw(3) },
-        7 => Step::Gossip { d, m: draws.draw(3), k: draws.draw(3) },
-        8 => Step::Post { d, m: draws.draw(3), i: draws.draw(2) },
+        6 => Step::Place {
+            d,
+            q: draws.draw(2),
+            m: draws.draw(3),
+        },
+        7 => Step::Gossip {
+            d,
+            m: draws.draw(3),
+            k: draws.draw(3),
+        },
+        8 => Step::Post {
+            d,
+            m: draws.draw(3),
+            i: draws.draw(2),
+        },
         9 => Step::Learn { d },
-        10 => Step::Send { d, k: draws.draw(2), e: other(draws, d) },
-        11 => Step::Deliver { d, e: other(draws, d), k: from_1(draws, 4), r: draws.draw(2) },
-        12 => Step::Lose { d, e: other(draws, d), k: from_1(draws, 4) },
-        13 => Step::Copy { d, e: other(draws, d), k: from_1(draws, 4) },
-        14 => Step::Floor { d, p: u64::from(from_1(draws, 600)) },
-        _ => Step::Collect { d, m: draws.draw(3) },
+        10 => Step::Send {
+            d,
+            k: draws.draw(2),
+            e: other(draws, d),
+        },
+        11 => Step::Deliver {
+            d,
+            e: other(draws, d),
+            k: from_1(draws, 4),
+            r: draws.draw(2),
+        },
+        12 => Step::Lose {
+            d,
+            e: other(draws, d),
+            k: from_1(draws, 4),
+        },
+        13 => Step::Copy {
+            d,
+            e: other(draws, d),
+            k: from_1(draws, 4),
+        },
+        14 => Step::Floor {
+            d,
+            p: u64::from(from_1(draws, 600)),
+        },
+        _ => Step::Collect {
+            d,
+            m: draws.draw(3),
+        },
     }
 }
 
