@@ -39,7 +39,7 @@ key = give key_name <*> draw 32
 unfoldable pub tag : Drawn (List ℕ)
 tag = give tag_name <*> draw 8
 
--- the table of commands: of ten, four are puts, three gets, and one is each other
+-- the table of commands, by a number below 10
 unfoldable pub command_by : ℕ → ℕ → ℕ → Drawn Command
 command_by s k choice =
     if nat_lt choice 4 then give (λ x. Put x (put_body s k)) <*> key
@@ -68,7 +68,7 @@ other d = give (λ n. (d + 1 + n) % 3) <*> draw 2
 unfoldable pub draw_from_1 : ℕ → Drawn ℕ
 draw_from_1 k = give (λ n. 1 + n) <*> draw k
 
--- the table of steps at datacentre d
+-- the table of steps at datacentre d, by a number below 16
 unfoldable pub step_by : ℕ → ℕ → Drawn Step
 step_by d choice =
     if nat_lt choice 2 then give Client <*> draw 12
@@ -87,7 +87,7 @@ step_by d choice =
     else if choice == 14 then give (Floor d) <*> draw_from_1 600
     else give (Collect d) <*> draw 3
 
--- a step: first its datacentre is drawn, then one of sixteen rows
+-- a step: its datacentre is drawn, and then its row
 unfoldable pub step : Drawn Step
 step = do
   d ← draw 3

@@ -6,13 +6,12 @@ ghost use Rattle.script_generator.specs.Draws.{many};
 ghost use Rattle.script_generator.specs.Generated.{generated, plan, step};
 
 use crate::commands::plan;
+use crate::datacentres::DATACENTRES;
 use crate::draws::Draws;
 use crate::steps::step;
 use abstract_log::{Script, SessionPlan, Sizes, Step, Workload};
 use cz_base::{NoMemory, Seq};
 use std::alloc::Global;
-
-const DATACENTRES: u32 = 3;
 
 const SESSIONS: u32 = 12;
 
