@@ -1,0 +1,5 @@
+pub mod CommandLemmas
+pub mod DrawLemmas
+pub mod ScriptLemmas
+pub mod StepLemmas
+pub mod TextLemmas

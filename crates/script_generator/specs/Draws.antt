@@ -29,7 +29,7 @@ infixl 20 ◌<*>◌
 abbrev pub ◌<*>◌ : {A B : Type 0} → Drawn (A → B) → Drawn A → Drawn B
 (f <*> x) g = ((f g).0 (x (f g).1).0, (x (f g).1).1)
 
--- one after another, each made by its number, from 0 on, so many in all
+-- so many, one after another, each made by its number, from 0 on
 unfoldable pub many : {A : Type 0} → (ℕ → Drawn A) → ℕ → Drawn (List A)
 many each zero = give []
 many each (suc n) = do

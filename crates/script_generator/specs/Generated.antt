@@ -18,13 +18,16 @@ key_name n = codes "k" ++ decimal n
 abbrev pub tag_name : ℕ → List ℕ
 tag_name n = codes "t" ++ decimal n
 
--- A body says whose it is: `v3.17` is that of a put, the command 17 of session 3, and `a3.17` that of an append.
+-- A body names its command: `v3.17` is what command 17 of session 3 puts, and `a3.17` what it appends.
+
+abbrev pub command_name : ℕ → ℕ → List ℕ
+command_name s k = decimal s ++ (codes "." ++ decimal k)
 
 abbrev pub put_body : ℕ → ℕ → List ℕ
-put_body s k = codes "v" ++ decimal s ++ codes "." ++ decimal k
+put_body s k = codes "v" ++ command_name s k
 
 abbrev pub append_body : ℕ → ℕ → List ℕ
-append_body s k = codes "a" ++ decimal s ++ codes "." ++ decimal k
+append_body s k = codes "a" ++ command_name s k
 
 -- Commands.
 
@@ -36,14 +39,14 @@ key = give key_name <*> draw 32
 unfoldable pub tag : Drawn (List ℕ)
 tag = give tag_name <*> draw 8
 
--- the table of commands: of ten, four are puts, three gets, and one is each other
+-- the table of commands, by a number below 10
 unfoldable pub command_by : ℕ → ℕ → ℕ → Drawn Command
 command_by s k choice =
-  if nat_lt choice 4 then give (λ x. Put x (put_body s k)) <*> key
-  else if nat_lt choice 7 then give Get <*> key
-  else if choice == 7 then give (λ x y z. Tx (x ∷ y ∷ z ∷ [])) <*> key <*> key <*> key
-  else if choice == 8 then give (λ t. Append (t ∷ []) (append_body s k)) <*> tag
-  else give (λ t. Last t 3) <*> tag
+    if nat_lt choice 4 then give (λ x. Put x (put_body s k)) <*> key
+    else if nat_lt choice 7 then give Get <*> key
+    else if choice == 7 then give (λ x y z. Tx (x ∷ y ∷ z ∷ [])) <*> key <*> key <*> key
+    else if choice == 8 then give (λ t. Append (t ∷ []) (append_body s k)) <*> tag
+    else give (λ t. Last t 3) <*> tag
 
 -- command k of session s
 unfoldable pub command : ℕ → ℕ → Drawn Command
@@ -65,26 +68,26 @@ other d = give (λ n. (d + 1 + n) % 3) <*> draw 2
 unfoldable pub draw_from_1 : ℕ → Drawn ℕ
 draw_from_1 k = give (λ n. 1 + n) <*> draw k
 
--- the table of steps at datacentre d
+-- the table of steps at datacentre d, by a number below 16
 unfoldable pub step_by : ℕ → ℕ → Drawn Step
 step_by d choice =
-  if nat_lt choice 2 then give Client <*> draw 12
-  else if choice == 2 then give (Flush d) <*> draw 2
-  else if choice == 3 then give (Pass d) <*> draw 2 <*> draw 2
-  else if choice == 4 then give (Stamp d) <*> draw 2
-  else if choice == 5 then give (Token d)
-  else if choice == 6 then give (Place d) <*> draw 2 <*> draw 3
-  else if choice == 7 then give (Gossip d) <*> draw 3 <*> draw 3
-  else if choice == 8 then give (Post d) <*> draw 3 <*> draw 2
-  else if choice == 9 then give (Learn d)
-  else if choice == 10 then give (Send d) <*> draw 2 <*> other d
-  else if choice == 11 then give (Deliver d) <*> other d <*> draw_from_1 4 <*> draw 2
-  else if choice == 12 then give (Lose d) <*> other d <*> draw_from_1 4
-  else if choice == 13 then give (Copy d) <*> other d <*> draw_from_1 4
-  else if choice == 14 then give (Floor d) <*> draw_from_1 600
-  else give (Collect d) <*> draw 3
+    if nat_lt choice 2 then give Client <*> draw 12
+    else if choice == 2 then give (Flush d) <*> draw 2
+    else if choice == 3 then give (Pass d) <*> draw 2 <*> draw 2
+    else if choice == 4 then give (Stamp d) <*> draw 2
+    else if choice == 5 then give (Token d)
+    else if choice == 6 then give (Place d) <*> draw 2 <*> draw 3
+    else if choice == 7 then give (Gossip d) <*> draw 3 <*> draw 3
+    else if choice == 8 then give (Post d) <*> draw 3 <*> draw 2
+    else if choice == 9 then give (Learn d)
+    else if choice == 10 then give (Send d) <*> draw 2 <*> other d
+    else if choice == 11 then give (Deliver d) <*> other d <*> draw_from_1 4 <*> draw 2
+    else if choice == 12 then give (Lose d) <*> other d <*> draw_from_1 4
+    else if choice == 13 then give (Copy d) <*> other d <*> draw_from_1 4
+    else if choice == 14 then give (Floor d) <*> draw_from_1 600
+    else give (Collect d) <*> draw 3
 
--- a step: first its datacentre is drawn, then one of sixteen rows
+-- a step: its datacentre is drawn, and then its row
 unfoldable pub step : Drawn Step
 step = do
   d ← draw 3

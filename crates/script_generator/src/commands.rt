@@ -2,24 +2,21 @@ ghost use Rattle.std.specs.Prelude.{◌≡◌, ◌<◌, IfOk};
 ghost use Rattle.script_generator.specs.Draws.{many};
 ghost use Rattle.script_generator.specs.Generated.{key, tag, command_by, command, plan};
 
+use crate::datacentres::{DATACENTRES, datacentre};
 use crate::draws::Draws;
 use crate::texts::{append_body, key_name, put_body, tag_name};
 use abstract_log::{Command, SessionPlan};
-use cz_base::{DcId, Name, NoMemory, Seq};
+use cz_base::{Name, NoMemory, Seq};
 use std::alloc::Global;
-
-const DATACENTRES: u32 = 3;
 
 const COMMANDS: u32 = 100;
 
-/// Session `s` with its commands.
+/// Session `s` with its commands, which count from 1.
 #[tactic(auto, unfolding(crate::specs::Generated::plan))]
 pub fn plan(alloc: Global, draws: &mut Draws, s: u32) -> Result<SessionPlan, NoMemory>
     ensures { IfOk result (λ made. (made, draws.new) ≡ plan s draws.old) }
 {
-    let Some(home) = DcId::new(s % DATACENTRES) else {
-        unreachable!()
-    };
+    let home = datacentre(s % DATACENTRES);
     let mut commands = Seq::new(alloc);
     for before in 0..COMMANDS {
         commands.push(command(alloc, draws, s, before + 1)?)?;

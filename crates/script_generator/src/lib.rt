@@ -6,6 +6,7 @@
 #![tactic(auto)]
 
 mod commands;
+mod datacentres;
 mod draws;
 mod script;
 mod steps;

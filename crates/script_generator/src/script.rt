@@ -6,13 +6,12 @@ ghost use Rattle.script_generator.specs.Draws.{many};
 ghost use Rattle.script_generator.specs.Generated.{generated, plan, step};
 
 use crate::commands::plan;
+use crate::datacentres::DATACENTRES;
 use crate::draws::Draws;
 use crate::steps::step;
 use abstract_log::{Script, SessionPlan, Sizes, Step, Workload};
 use cz_base::{NoMemory, Seq};
 use std::alloc::Global;
-
-const DATACENTRES: u32 = 3;
 
 const SESSIONS: u32 = 12;
 
@@ -47,10 +46,7 @@ pub fn generate(alloc: Global, seed: u64) -> Result<Script, NoMemory>
     let mut draws = Draws::new(seed);
     let sessions = sessions(alloc, &mut draws)?;
     let steps = steps(alloc, &mut draws)?;
-    let mut sizes = Seq::new(alloc);
-    for _datacentre in 0..DATACENTRES {
-        sizes.push(SIZES)?;
-    }
+    let sizes = Seq::from_vec(vec![in alloc; SIZES, SIZES, SIZES]?);
     Ok(Script {
         workload: Workload {
             dcs: DATACENTRES,

@@ -1,0 +1,9 @@
+use Rattle.script_generator.specs.Generated.{plan}
+use Rattle.script_generator.proofs.DrawLemmas.{many_none, many_more}
+use Rattle.script_generator.proofs.script.sessions.Goals as goal
+
+pub loop-s-init : goal.loop-s-init
+loop-s-init c = many_none plan _ _ c.new-sessions.ensures
+
+pub loop-s-preserved : goal.loop-s-preserved
+loop-s-preserved c = many_more plan _ _ _ _ _ _ _ c.loop-s.invariant c.in_ok-plan.ensures c.in_ok-push.ensures.ok

@@ -1,0 +1,7 @@
+use Rattle.std.proofs.Common.{arith, subst, sym, ◌∙◌}
+use Rattle.cz_base.specs.Text.{IsBody}
+use Rattle.script_generator.proofs.TextLemmas.{append_is_body}
+use Rattle.script_generator.proofs.texts.append_body.Goals as goal
+
+pub body-requires : goal.body-requires
+body-requires c = subst IsBody (sym (c.deref.ensures ∙ c.in_ok-format.ensures.ok)) (append_is_body c.args.session c.args.index (omega arith) (omega arith))
