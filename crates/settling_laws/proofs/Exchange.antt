@@ -125,7 +125,7 @@ module _ (load : Workload) (z : Stages) (h : IsStanding load z) (x : Errand) (go
   ]
 
   -- What one errand leaves, be it due or not.
-  record IsRun (new : Stages) (turns : List Step) : Type 0 where
+  pub record IsRun (new : Stages) (turns : List Step) : Type 0 where
     pub steps : All (IsStep load) turns
     pub leads : LeadsTo load z new h
     pub datacentres : length new.datacentres ≡ length z.datacentres
@@ -164,7 +164,7 @@ module _ (load : Workload) (z : Stages) (h : IsStanding load z) (x : Errand) (go
         ];
       }
 
-  errand_run : IsRun (after_steps load z (errand_turns load z x)) (errand_turns load z x)
+  pub errand_run : IsRun (after_steps load z (errand_turns load z x)) (errand_turns load z x)
   errand_run = cond_both (is_due z x) (sent_and_delivered load z x) [] (λ ts. IsRun (after_steps load z ts) ts) (λ _. due_run) idle_run
 
 -- What the errands of a list leave, one after another.

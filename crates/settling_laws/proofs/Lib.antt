@@ -24,6 +24,7 @@ pub mod Exchange
 pub mod Arrivals
 pub mod Choosing
 pub mod TellingPass
+pub mod Passes
 pub mod Telling
 pub mod TellingLoop
 pub mod Settled
