@@ -28,7 +28,5 @@ pub mod Passes
 pub mod Telling
 pub mod TellingLoop
 pub mod Settled
-pub mod Bounds
-pub mod Ample
 pub mod Quiet
 pub mod Scripts

@@ -1,9 +1,7 @@
 ghost use Rattle.std.specs.Prelude.{IfOk};
-ghost use Rattle.world.specs.Replays.{IsReplayed};
-ghost use Rattle.world_rows.specs.Given.{IsReplayedScript};
+ghost use Rattle.world_rows.specs.Given.{IsWhole};
 
 use crate::steps::may_take_all;
-use abstract_log::Script;
 use report_text::{full, logs};
 use script_text::read_script;
 use std::alloc::Global;
@@ -13,7 +11,7 @@ use world::{Played, replay};
 
 // When its steps end a record is gone at A, a get-transaction has one of two keys and a get waits for its indexer, both with their pins; a
 // draft is in a batcher, one in a filter, one in a queue without the token; a record is in an outbox, two are placed and not gossiped; at C
-// one record is deferred and one is held; one packet was lost, and others are there twice or once; five sessions have more to begin.
+// one record is deferred and one is held; one packet was lost, one is there twice, and one is left over; seven sessions have more to begin.
 const SCRIPT: &[u8] = b"\
     chariots 1\n\
     datacentres 3\n\
@@ -407,24 +405,23 @@ const LEFT: &[u8] = b"\
 ";
 
 // The script, played to its end.
-fn played(alloc: Global) -> Result<(Script, Played), Fail>
-    ensures { IfOk result (λ both. IsReplayedScript both.0 both.1) }
+fn whole(alloc: Global) -> Result<Played, Fail>
+    ensures { IfOk result IsWhole }
 {
     let script = read_script(alloc, SCRIPT)?;
     if !may_take_all(&script.workload, script.steps.as_slice()) {
         return Err(Fail::from("a step that the stages may not take"));
     }
-    let played = replay(alloc, &script)?;
-    Ok((script, played))
+    Ok(replay(alloc, &script)?)
 }
 
 // Whatever is half way when the steps end, settling brings it to its end.
 #[test]
 fn what_is_half_way_is_settled(rt: HostRuntime) -> Result<(), Fail> {
     let alloc = rt.alloc();
-    let (_script, played) = played(alloc)?;
-    let whole = full(alloc, &played.run, Some(&played.stages), &played.left)?;
-    assert!(rt; whole.as_slice().starts_with(BEGINS));
+    let played = whole(alloc)?;
+    let report = full(alloc, &played.run, Some(&played.stages), &played.left)?;
+    assert!(rt; report.as_slice().starts_with(BEGINS));
     let left = logs(alloc, &played.run, &played.left)?;
     assert!(rt; left.as_slice() == LEFT);
     Ok(())
