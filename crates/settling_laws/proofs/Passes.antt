@@ -28,7 +28,7 @@ module _ (goes_on : Stages → Bool) (pass : Workload → Stages → List Step) 
   -- how many passes the loop still makes, if it makes no more than the fuel
   pub passes_left : ℕ → Stages → ℕ
   passes_left zero z = 0
-  passes_left (suc fuel) z = cond (goes_on z) (suc (passes_left fuel (next z))) 0
+  passes_left (suc fuel) z = cond (goes_on z) (suc (passes_left fuel (next z))) zero
 
   -- It ends after n passes.
   pub record EndsAfter (z : Stages) (n : ℕ) : Type 0 where
@@ -48,13 +48,13 @@ module _ (goes_on : Stages → Bool) (pass : Workload → Stages → List Step) 
 
   -- they are counted
   counted : (fuel n : ℕ) (z : Stages) → EndsAfter z n → n ≤ fuel → passes_left fuel z ≡ n
-  counted zero n z h few = omega (arith, few)
-  counted (suc fuel) zero z h few = cond-false (goes_on z) (suc (passes_left fuel (next z))) 0 h.ends
-  counted (suc fuel) (suc n) z h few = cond-true (goes_on z) (suc (passes_left fuel (next z))) 0 (h.before 0 (omega arith)) ∙ ap suc (counted fuel n (next z) (ends_next z n h) (omega (arith, few)))
+  counted zero n z h few = let none : zero ≡ n = omega (arith, few) in none
+  counted (suc fuel) zero z h few = cond-false (goes_on z) (suc (passes_left fuel (next z))) zero h.ends
+  counted (suc fuel) (suc n) z h few = cond-true (goes_on z) (suc (passes_left fuel (next z))) zero (h.before 0 (omega arith)) ∙ ap suc (counted fuel n (next z) (ends_next z n h) (omega (arith, few)))
 
   -- after some of them the others are left
   others_left : (z : Stages) (n m : ℕ) → EndsAfter z n → m ≤ n → EndsAfter (after_passes load pass z m) (n - m)
-  others_left z n zero h low = h
+  others_left z n zero h low = let all : n ≡ n - zero = omega arith in subst (EndsAfter z) all h
   others_left z n (suc m) h low =
       let one : n - m ≡ suc (n - suc m) = omega (arith, low) in
       ends_next (after_passes load pass z m) (n - suc m) (subst (EndsAfter (after_passes load pass z m)) one (others_left z n m h (omega (arith, low))))
@@ -91,7 +91,7 @@ module _ (goes_on : Stages → Bool) (pass : Workload → Stages → List Step) 
   pub as_many : IsBlind → (fuel : ℕ) (z y : Stages) → IsStanding load z → IsStanding load y → z.datacentres ≡ y.datacentres → passes_left fuel z ≡ passes_left fuel y
   as_many blind zero z y hz hy same = refl
   as_many blind (suc fuel) z y hz hy same =
-      ap₂ (λ b k. cond b (suc k) 0) (blind.test z y same) (as_many blind fuel (next z) (next y) (blind.stands z hz) (blind.stands y hy) (blind.same z y hz hy same))
+      ap₂ (λ (b : Bool) (k : ℕ). cond b (suc k) zero) (blind.test z y same) (as_many blind fuel (next z) (next y) (blind.stands z hz) (blind.stands y hy) (blind.same z y hz hy same))
 
 -- Rounds
 
@@ -203,15 +203,21 @@ module _ (load : Workload) where
 
 -- Stages with nothing in their links
 
-pub unlinked : Workload → List Datacentre → Stages
-unlinked load ds = record { datacentres = ds; links = replicate load.dcs (replicate load.dcs []) }
+abbrev no_message : List Message
+no_message = []
 
-no_link : (load : Workload) (ds : List Datacentre) (d e : ℕ) → link_at (unlinked load ds) d e ≡ []
+abbrev no_row : Workload → List (List Message)
+no_row load = replicate load.dcs no_message
+
+abbrev pub unlinked : Workload → List Datacentre → Stages
+unlinked load ds = record { datacentres = ds; links = replicate load.dcs (no_row load) }
+
+no_link : (load : Workload) (ds : List Datacentre) (d e : ℕ) → link_at (unlinked load ds) d e ≡ no_message
 no_link load ds d e = elim (cases_lt d load.dcs) [
-  | inr past ↦ ap (λ (row : List (List Message)). get_or row e []) (get_or_past (replicate load.dcs (replicate load.dcs [])) d [] (omega (arith, past, length-replicate load.dcs (replicate load.dcs ([] {A = Message})))))
-  | inl within ↦ ap (λ (row : List (List Message)). get_or row e []) (get_or-replicate load.dcs d (replicate load.dcs []) [] within) ∙ elim (cases_lt e load.dcs) [
-    | inr past ↦ get_or_past (replicate load.dcs []) e [] (omega (arith, past, length-replicate load.dcs ([] {A = Message})))
-    | inl inside ↦ get_or-replicate load.dcs e [] [] inside
+  | inr past ↦ ap (λ (row : List (List Message)). get_or row e []) (get_or_past (replicate load.dcs (no_row load)) d [] (omega (arith, past, length-replicate load.dcs (no_row load))))
+  | inl within ↦ ap (λ (row : List (List Message)). get_or row e []) (get_or-replicate load.dcs d (no_row load) [] within) ∙ elim (cases_lt e load.dcs) [
+    | inr past ↦ get_or_past (no_row load) e no_message (omega (arith, past, length-replicate load.dcs no_message))
+    | inl inside ↦ get_or-replicate load.dcs e no_message no_message inside
   ]
 ]
 
@@ -231,8 +237,8 @@ stands_unlinked load z h =
             let T : Message → Type 0 = IsTold h.world.workload.dcs (log_of h.world d) (table_of h.world d) d in
             subst (All T) (sym (no_link load z.datacentres d e)) (All-nil T);
         linked = (
-          length-replicate load.dcs (replicate load.dcs []) ∙ sym dcs,
-          λ d within. ap length (get_or-replicate load.dcs d (replicate load.dcs []) [] (omega (arith, within, dcs))) ∙ length-replicate load.dcs [] ∙ sym dcs,
+          length-replicate load.dcs (no_row load) ∙ sym dcs,
+          λ d within. ap length (get_or-replicate load.dcs d (no_row load) [] (omega (arith, within, dcs))) ∙ length-replicate load.dcs no_message ∙ sym dcs,
         );
         room = λ d e. omega (arith, ap length (no_link load z.datacentres d e));
       };

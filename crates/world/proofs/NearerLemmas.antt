@@ -41,10 +41,7 @@ pub shown_in : StagesState → Stages
 shown_in s = unlinked s.workload (seen_in s)
 
 module _ (script : Script) (ts : List Taken) (s : StagesState) (h : HasTaken script ts s) where
-  abbrev z : Stages
-  z = stages_after script ts
-
-  pub stands_after : IsStanding script.workload z
+  pub stands_after : IsStanding script.workload (stages_after script ts)
   stands_after =
       let run = run_of script ts s h in
       record {
@@ -54,8 +51,8 @@ module _ (script : Script) (ts : List Taken) (s : StagesState) (h : HasTaken scr
         stands = run.1;
       }
 
-  pub shown_is : shown_in s ≡ unlinked script.workload z.datacentres
-  shown_is = ap₂ unlinked h.workload (ap (map (λ (x : DatacentreState). or_nowhere x.stages)) h.shown.datacentres ∙ seen_all 0 z.datacentres)
+  pub shown_is : shown_in s ≡ unlinked script.workload (stages_after script ts).datacentres
+  shown_is = ap₂ unlinked h.workload (ap (map (λ (x : DatacentreState). or_nowhere x.stages)) h.shown.datacentres ∙ seen_all 0 (stages_after script ts).datacentres)
 
 module _ (goes_on : Stages → Bool) (pass : Workload → Stages → List Step) where
   -- how many passes the loop still makes from this state on, if no more than the fuel
@@ -102,7 +99,7 @@ module _ (goes_on : Stages → Bool) (pass : Workload → Stages → List Step) 
       )
 
 -- Answering ends, within a pass more than there is work left.
-pub work_left : StagesState → ℕ
+abbrev pub work_left : StagesState → ℕ
 work_left s = left_in (shown_in s) + 1
 
 pub answers_end : (s : StagesState) → ((w : World) (z : Stages) → IsLawful w → StandsFor w z → EndsAnswering w.workload z) → IsTaken s → Ends is_answering answering_rounds (work_left s) s
@@ -116,7 +113,7 @@ answers_end s law h =
       blind = answering_is_blind load;
       passes = ends.passes;
       after = loop_ends is_answering answering_rounds load z ends.passes ends.turns ends.loop;
-      few = omega (arith, ends.few, ap left_in (shown_is h.script h.turns s h.taken));
+      few = let same : left_in (shown_in s) ≡ left_in z = ap left_in (shown_is h.script h.turns s h.taken) in omega (arith, ends.few, same);
     }
 
 -- Telling ends, within two passes for each record that a log may get.
