@@ -5,8 +5,8 @@ use Rattle.world.proofs.NearerLemmas.{passes_from}
 use Rattle.world.proofs.SettledLemmas.{IsSoFar}
 use Rattle.world.proofs.stages.Stages.play_until_told.Given as goal
 
-abbrev pub invariant-loop-is_unfinished : goal.invariant-loop-is_unfinished
-invariant-loop-is_unfinished l = Plays (IsSoFar is_unfinished telling_rounds) l.initial.self l.self
+abbrev pub invariant-loop-self : goal.invariant-loop-self
+invariant-loop-self l = Plays (IsSoFar is_unfinished telling_rounds) l.initial.self l.self
 
-abbrev pub decreases-loop-is_unfinished : goal.decreases-loop-is_unfinished
-decreases-loop-is_unfinished l = passes_from is_unfinished telling_rounds (most_passes l.initial.self.workload) l.self
+abbrev pub decreases-loop-self : goal.decreases-loop-self
+decreases-loop-self l = passes_from is_unfinished telling_rounds (most_passes l.initial.self.workload) l.self
