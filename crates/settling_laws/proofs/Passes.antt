@@ -26,7 +26,7 @@ module _ (goes_on : Stages → Bool) (pass : Workload → Stages → List Step) 
   next z = after_steps load z (pass load z)
 
   -- how many passes the loop still makes, if it makes no more than the fuel
-  pub passes_left : ℕ → Stages → ℕ
+  abbrev pub passes_left : ℕ → Stages → ℕ
   passes_left zero z = 0
   passes_left (suc fuel) z = cond (goes_on z) (suc (passes_left fuel (next z))) zero
 

@@ -25,11 +25,11 @@ use Rattle.world.proofs.SettledLemmas.{IsSoFar, after_so_far, stages_played}
 use Rattle.world.proofs.TakingLemmas.{run_of}
 
 -- the stages of a datacentre that has not failed
-or_nowhere : Option Datacentre → Datacentre
+abbrev or_nowhere : Option Datacentre → Datacentre
 or_nowhere None = nowhere_at
 or_nowhere (Some z) = z
 
-pub seen_in : StagesState → List Datacentre
+abbrev pub seen_in : StagesState → List Datacentre
 seen_in s = map (λ (x : DatacentreState). or_nowhere x.stages) s.sites.datacentres
 
 seen_all : (n : ℕ) (zs : List Datacentre) → map (λ (x : DatacentreState). or_nowhere x.stages) (states_from n zs) ≡ zs
@@ -37,7 +37,7 @@ seen_all n [] = refl
 seen_all n (z ∷ zs) = ap (λ ys. z ∷ ys) (seen_all (n + 1) zs)
 
 -- the stages that the state shows, with nothing in their links
-pub shown_in : StagesState → Stages
+abbrev pub shown_in : StagesState → Stages
 shown_in s = unlinked s.workload (seen_in s)
 
 module _ (script : Script) (ts : List Taken) (s : StagesState) (h : HasTaken script ts s) where
@@ -56,7 +56,7 @@ module _ (script : Script) (ts : List Taken) (s : StagesState) (h : HasTaken scr
 
 module _ (goes_on : Stages → Bool) (pass : Workload → Stages → List Step) where
   -- how many passes the loop still makes from this state on, if no more than the fuel
-  pub passes_from : ℕ → StagesState → ℕ
+  abbrev pub passes_from : ℕ → StagesState → ℕ
   passes_from fuel s = passes_left goes_on pass s.workload fuel (shown_in s)
 
   passes_are : (fuel : ℕ) (script : Script) (ts : List Taken) (s : StagesState) → IsBlind goes_on pass script.workload → HasTaken script ts s → passes_from fuel s ≡ passes_left goes_on pass script.workload fuel (stages_after script ts)
