@@ -44,7 +44,7 @@ pub record IsNext (z : Stages) (x : Errand) (q : Record) : Type 0 where
   pub stocked : Contains (stock_of (datacentre_at z x.from).maintainers x.sender (datacentre_at z x.from).senders) entry
   pub rec : entry.rec ≡ q
 
-errand_stays : (load : Workload) (z y : Stages) (x : Errand) → ((g : ℕ) → IsBeside (datacentre_at z g) (datacentre_at y g)) → IsErrand load z x → IsErrand load y x
+pub errand_stays : (load : Workload) (z y : Stages) (x : Errand) → ((g : ℕ) → IsBeside (datacentre_at z g) (datacentre_at y g)) → IsErrand load z x → IsErrand load y x
 errand_stays load z y x beside h = record { from = h.from; to = h.to; apart = h.apart; sender = omega (arith, h.sender, ap (λ (v : Datacentre). v.senders) (beside x.from).rest) }
 
 next_stays : (z y : Stages) (x : Errand) (q : Record) → ((g : ℕ) → IsBeside (datacentre_at z g) (datacentre_at y g)) → IsNext z x q → IsNext y x q
