@@ -125,6 +125,10 @@ module _ (load : Workload) (z : Stages) (h : IsStanding load z) (d k e : ℕ) (i
   done_is : after_steps load z (sent_and_delivered load z (record { from = d; to = e; sender = k })) ≡ new
   done_is = ap (λ s. (step_of load s (Deliver d e (link_length s d e) 0)).after) sent_is ∙ ap (λ (x : Moved). x.after) delivered_is
 
+  -- the datacentres are decided by those before
+  pub errand_datacentres : (after_steps load z (sent_and_delivered load z (record { from = d; to = e; sender = k }))).datacentres ≡ set z.datacentres e (received (datacentre_at z e) 0 (message_of d (datacentre_at z d) k e))
+  errand_datacentres = ap (λ (s : Stages). s.datacentres) done_is
+
   good_steps : All (IsStep load) (sent_and_delivered load z (record { from = d; to = e; sender = k }))
   good_steps = All-cons (IsStep load) send (Deliver d e (link_length (step_of load z send).after d e) 0 ∷ []) good_send
       (All-cons (IsStep load) (Deliver d e (link_length (step_of load z send).after d e) 0) [] (record { first = in_d; second = in_e; apart = apart }) (All-nil (IsStep load)))

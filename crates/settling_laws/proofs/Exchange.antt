@@ -44,7 +44,7 @@ pub record IsNext (z : Stages) (x : Errand) (q : Record) : Type 0 where
   pub stocked : Contains (stock_of (datacentre_at z x.from).maintainers x.sender (datacentre_at z x.from).senders) entry
   pub rec : entry.rec ≡ q
 
-errand_stays : (load : Workload) (z y : Stages) (x : Errand) → ((g : ℕ) → IsBeside (datacentre_at z g) (datacentre_at y g)) → IsErrand load z x → IsErrand load y x
+pub errand_stays : (load : Workload) (z y : Stages) (x : Errand) → ((g : ℕ) → IsBeside (datacentre_at z g) (datacentre_at y g)) → IsErrand load z x → IsErrand load y x
 errand_stays load z y x beside h = record { from = h.from; to = h.to; apart = h.apart; sender = omega (arith, h.sender, ap (λ (v : Datacentre). v.senders) (beside x.from).rest) }
 
 next_stays : (z y : Stages) (x : Errand) (q : Record) → ((g : ℕ) → IsBeside (datacentre_at z g) (datacentre_at y g)) → IsNext z x q → IsNext y x q
@@ -125,7 +125,7 @@ module _ (load : Workload) (z : Stages) (h : IsStanding load z) (x : Errand) (go
   ]
 
   -- What one errand leaves, be it due or not.
-  record IsRun (new : Stages) (turns : List Step) : Type 0 where
+  pub record IsRun (new : Stages) (turns : List Step) : Type 0 where
     pub steps : All (IsStep load) turns
     pub leads : LeadsTo load z new h
     pub datacentres : length new.datacentres ≡ length z.datacentres
@@ -164,7 +164,7 @@ module _ (load : Workload) (z : Stages) (h : IsStanding load z) (x : Errand) (go
         ];
       }
 
-  errand_run : IsRun (after_steps load z (errand_turns load z x)) (errand_turns load z x)
+  pub errand_run : IsRun (after_steps load z (errand_turns load z x)) (errand_turns load z x)
   errand_run = cond_both (is_due z x) (sent_and_delivered load z x) [] (λ ts. IsRun (after_steps load z ts) ts) (λ _. due_run) idle_run
 
 -- What the errands of a list leave, one after another.

@@ -24,10 +24,9 @@ pub mod Exchange
 pub mod Arrivals
 pub mod Choosing
 pub mod TellingPass
+pub mod Passes
 pub mod Telling
 pub mod TellingLoop
 pub mod Settled
-pub mod Bounds
-pub mod Ample
 pub mod Quiet
 pub mod Scripts

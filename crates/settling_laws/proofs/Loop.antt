@@ -159,10 +159,6 @@ module _ (load : Workload) (z : Stages) (h : IsStanding load z) where
   pub answering_steps : (n : ℕ) → All (IsStep load) (turns_to n)
   answering_steps n = (leads_to n).steps
 
-  -- and they change no members
-  pub answering_members : (n d : ℕ) → HasSameMembers (datacentre_at z d) (datacentre_at (after_steps load z (turns_to n)) d)
-  answering_members n d = subst (λ s. HasSameMembers (datacentre_at z d) (datacentre_at s d)) (sym (leads_to n).is) ((leads_to n).members d)
-
   -- The loop of answering ends.
   pub answering_ends_at : EndsAnswering load z
   answering_ends_at =

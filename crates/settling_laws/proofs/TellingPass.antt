@@ -48,12 +48,16 @@ every (x ∷ xs) = ap (λ ys. x ∷ ys) (every xs)
 pub dcs_of : (load : Workload) (z : Stages) → IsStanding load z → length z.datacentres ≡ load.dcs
 dcs_of load z h = h.stands.size ∙ ap (λ (l : Workload). l.dcs) h.workload
 
+-- they are rounds of all
+pub all_of : (load : Workload) (z : Stages) → IsStanding load z → AreRoundsOf load z (λ _. true) (length z.datacentres) (all_rounds z)
+all_of load z h = subst (λ ds. AreRoundsOf load z (λ _. true) (length z.datacentres) (rounds z ds)) (every (below (length z.datacentres))) (rounds_are load z h (λ _. true) (length z.datacentres) (omega (arith, dcs_of load z h)))
+
 pub all_round : (load : Workload) (z : Stages) (h : IsStanding load z) → AreAllRounded load z h (after_steps load z (all_rounds z)) (all_rounds z)
 all_round load z h =
     let n : ℕ = length z.datacentres in
     let ts : List Step = all_rounds z in
     let new : Stages = after_steps load z ts in
-    let are : AreRoundsOf load z (λ _. true) n ts = subst (λ ds. AreRoundsOf load z (λ _. true) n (rounds z ds)) (every (below n)) (rounds_are load z h (λ _. true) n (omega (arith, dcs_of load z h))) in
+    let are : AreRoundsOf load z (λ _. true) n ts = all_of load z h in
     let round : (d : ℕ) → d < load.dcs → IsRoundOf load d (datacentre_at z d) (rounded_at z d) = λ d within. round_rounds load d (datacentre_at z d) (live_at load d z within h) in
     let at : (d : ℕ) → d < load.dcs → datacentre_at new d ≡ rounded_at z d = λ d within. are.done d (omega (arith, within, dcs_of load z h)) refl in
     record {

@@ -44,10 +44,6 @@ pub record IsFinishedBy (w : World) (z : Stages) (steps : List Step) : Type 0 wh
   pub can : CanAllHappen w (events_of w.workload z steps)
   pub finished : IsFinished (after_all w (events_of w.workload z steps))
 
--- a number of passes that no loop of settling comes to
-abbrev pub ample : ℕ
-ample = 524288
-
 -- The steps of a script, and turns by which the stages settle after them, make a run on its workload that leaves a finished world.
 pub record HasFinishedRun (script : Script) : Type 0 where
   pub settling : List Step

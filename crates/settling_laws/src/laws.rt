@@ -7,10 +7,10 @@ ghost use Rattle.abstract_log.specs.Fits.{FitsScript};
 ghost use Rattle.log_laws.specs.Lawful.{IsLawful};
 ghost use Rattle.stage_world.specs.Opening.{opening};
 ghost use Rattle.stage_world.specs.Schedules.{IsStep, after_steps};
-ghost use Rattle.stage_world.specs.Settling.{is_answering, IsSettling, IsSettlingUpTo};
+ghost use Rattle.stage_world.specs.Settling.{is_answering, IsSettling};
 ghost use Rattle.stage_world.specs.Stages.{Stages};
 ghost use Rattle.stage_world.specs.Whole.{StandsFor};
-ghost use Rattle.settling_laws.specs.Ending.{ample, AreQuiet, EndsSettling, EndsTelling, HasFinishedRun, IsCalm, IsFinishedBy};
+ghost use Rattle.settling_laws.specs.Ending.{AreQuiet, EndsSettling, EndsTelling, HasFinishedRun, IsCalm, IsFinishedBy};
 ghost use Rattle.settling_laws.specs.Rounds.{EndsAnswering, IsSettledByRound};
 
 /// A local round of a datacentre changes that one alone: it leaves nothing there that may go into the log, no open write, and a log
@@ -37,11 +37,6 @@ pub fn settling_ends()
 /// Whatever turns settling takes, their events can happen, and the world that they leave is finished.
 pub fn settled_worlds_are_finished()
     ensures { (w : World) (z : Stages) (steps : List Step) → IsLawful w → StandsFor w z → IsSettling w.workload z steps → IsFinishedBy w z steps }
-{}
-
-/// Where a loop is given up only after very many passes, it ends by itself.
-pub fn ample_passes_are_enough()
-    ensures { (w : World) (z : Stages) (steps : List Step) → IsLawful w → StandsFor w z → AreQuiet w.workload z → IsSettlingUpTo ample w.workload z steps → IsSettling w.workload z steps }
 {}
 
 /// Stages that a script opens have no announcement, and none comes by steps that announce nothing.

@@ -9,6 +9,6 @@
 mod laws;
 
 pub use laws::{
-    ample_passes_are_enough, answering_ends, calm_scripts_stay_quiet, rounds_settle_a_datacentre,
-    scripts_come_to_an_end, settled_worlds_are_finished, settling_ends, telling_ends,
+    answering_ends, calm_scripts_stay_quiet, rounds_settle_a_datacentre, scripts_come_to_an_end,
+    settled_worlds_are_finished, settling_ends, telling_ends,
 };

@@ -12,4 +12,5 @@ pub mod KnownLemmas
 pub mod RoundIs
 pub mod SettlingLemmas
 pub mod SettledLemmas
+pub mod NearerLemmas
 pub mod ReplayLemmas

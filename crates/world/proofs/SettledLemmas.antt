@@ -20,7 +20,7 @@ use Rattle.abstract_log.specs.declared.script.Step.TheVariants.{Deliver, Send}
 use Rattle.stage_world.specs.LinkTurns.{link_length}
 use Rattle.stage_world.specs.Whole.{StandsFor, datacentre_at}
 use Rattle.stage_world.specs.Schedules.{AreTwo, IsStep, after_steps, step_of}
-use Rattle.stage_world.specs.Settling.{Errand, IsSettling, IsSettlingUpTo, after_passes, all_rounds, answering_rounds, below, errand_turns, errands, exchange, exchange_turns, has_unanswered, is_answering, is_due, is_unfinished, rounds, sent_and_delivered, telling_rounds, turns_of_passes}
+use Rattle.stage_world.specs.Settling.{Errand, IsSettling, after_passes, all_rounds, answering_rounds, below, errand_turns, errands, exchange, exchange_turns, has_unanswered, is_answering, is_due, is_unfinished, rounds, sent_and_delivered, telling_rounds, turns_of_passes}
 use Rattle.world.specs.Settled.{HasLooped, MayBePlayed, Plays}
 use Rattle.world.specs.Showing.{IsBuiltStep}
 use Rattle.world.specs.Links.{AreThere, packets_at}
@@ -124,10 +124,11 @@ errands_next items i x a b c within here =
 
 -- Loops
 
--- the turns of so many passes, before each of which there was something to do
-pub record IsSoFar (goes_on : Stages → Bool) (pass : Workload → Stages → List Step) (n : ℕ) (load : Workload) (z : Stages) (xs : List Step) : Type 0 where
-  pub turns : xs ≡ turns_of_passes load pass z n
-  pub before : (m : ℕ) → m < n → goes_on (after_passes load pass z m) ≡ true
+-- the turns of some passes, before each of which there was something to do
+pub record IsSoFar (goes_on : Stages → Bool) (pass : Workload → Stages → List Step) (load : Workload) (z : Stages) (xs : List Step) : Type 0 where
+  pub passes : ℕ
+  pub turns : xs ≡ turns_of_passes load pass z passes
+  pub before : (m : ℕ) → m < passes → goes_on (after_passes load pass z m) ≡ true
 
 passes_after : (load : Workload) (pass : Workload → Stages → List Step) (z : Stages) (n : ℕ) → after_steps load z (turns_of_passes load pass z n) ≡ after_passes load pass z n
 passes_after load pass z zero = refl
@@ -136,41 +137,36 @@ passes_after load pass z (suc n) =
     ∙ ap (λ y. after_steps load y (pass load (after_passes load pass z n))) (passes_after load pass z n)
 
 module _ (goes_on : Stages → Bool) (pass : Workload → Stages → List Step) where
-  after_so_far : (n : ℕ) (load : Workload) (z : Stages) (xs : List Step) → IsSoFar goes_on pass n load z xs → after_steps load z xs ≡ after_passes load pass z n
-  after_so_far n load z xs so = ap (after_steps load z) so.turns ∙ passes_after load pass z n
+  pub after_so_far : (load : Workload) (z : Stages) (xs : List Step) → (so : IsSoFar goes_on pass load z xs) → after_steps load z xs ≡ after_passes load pass z so.passes
+  after_so_far load z xs so = ap (after_steps load z) so.turns ∙ passes_after load pass z so.passes
 
-  pub none_so_far : (s : StagesState) → Plays (IsSoFar goes_on pass 0) s s
-  none_so_far s = plays_as (λ load z xs. xs ≡ []) (IsSoFar goes_on pass 0) s s (λ load z xs is. record { turns = is; before = λ m less. absurd (omega (arith, less)) }) (plays_none s)
+  pub none_so_far : (s : StagesState) → Plays (IsSoFar goes_on pass) s s
+  none_so_far s = plays_as (λ load z xs. xs ≡ []) (IsSoFar goes_on pass) s s (λ load z xs is. record { passes = 0; turns = is; before = λ m less. absurd (omega (arith, less)) }) (plays_none s)
 
   next_before : (n : ℕ) (load : Workload) (z : Stages) → ((m : ℕ) → m < n → goes_on (after_passes load pass z m) ≡ true) → goes_on (after_passes load pass z n) ≡ true → (m : ℕ) → m < n + 1 → goes_on (after_passes load pass z m) ≡ true
   next_before n load z before now m less = below_more _ _ before now m less
 
-  joins_pass : (n : ℕ) (load : Workload) (z : Stages) (xs ys : List Step) → IsSoFar goes_on pass n load z xs × (goes_on (after_steps load z xs) ≡ true) → ys ≡ pass load (after_steps load z xs) → IsSoFar goes_on pass (n + 1) load z (xs ++ ys)
-  joins_pass n load z xs ys so next =
-      let at : after_steps load z xs ≡ after_passes load pass z n = after_so_far n load z xs so.0 in
+  joins_pass : (load : Workload) (z : Stages) (xs ys : List Step) → IsSoFar goes_on pass load z xs × (goes_on (after_steps load z xs) ≡ true) → ys ≡ pass load (after_steps load z xs) → IsSoFar goes_on pass load z (xs ++ ys)
+  joins_pass load z xs ys so next =
+      let n : ℕ = so.0.passes in
+      let at : after_steps load z xs ≡ after_passes load pass z n = after_so_far load z xs so.0 in
       record {
+        passes = n + 1;
         turns = ap (λ us. us ++ ys) so.0.turns ∙ ap (λ us. turns_of_passes load pass z n ++ us) (next ∙ ap (pass load) at) ∙ sym (ap (turns_of_passes load pass z) (add-one n));
         before = next_before n load z so.0.before (sym (ap goes_on at) ∙ so.1);
       }
 
-  pub one_pass_more : (n : ℕ) (a b c : StagesState) → Plays (IsSoFar goes_on pass n) a b → ((script : Script) (ts : List Taken) → HasTaken script ts b → goes_on (stages_after script ts) ≡ true)
-      → Plays (λ load z xs. xs ≡ pass load z) b c → Plays (IsSoFar goes_on pass (n + 1)) a c
-  one_pass_more n a b c so going next =
-      plays_then (λ load z xs. IsSoFar goes_on pass n load z xs × (goes_on (after_steps load z xs) ≡ true)) (λ load z xs. xs ≡ pass load z) (IsSoFar goes_on pass (n + 1)) a b c (joins_pass n)
-      (plays_knowing (IsSoFar goes_on pass n) (λ z. goes_on z ≡ true) a b so going) next
+  pub one_pass_more : (a b c : StagesState) → Plays (IsSoFar goes_on pass) a b → ((script : Script) (ts : List Taken) → HasTaken script ts b → goes_on (stages_after script ts) ≡ true) → Plays (λ load z xs. xs ≡ pass load z) b c → Plays (IsSoFar goes_on pass) a c
+  one_pass_more a b c so going next =
+      plays_then (λ load z xs. IsSoFar goes_on pass load z xs × (goes_on (after_steps load z xs) ≡ true)) (λ load z xs. xs ≡ pass load z) (IsSoFar goes_on pass) a b c joins_pass
+      (plays_knowing (IsSoFar goes_on pass) (λ z. goes_on z ≡ true) a b so going) next
 
   -- nothing was left to do
-  pub loop_done : (most n : ℕ) (a b : StagesState) → Plays (IsSoFar goes_on pass n) a b → ((script : Script) (ts : List Taken) → HasTaken script ts b → goes_on (stages_after script ts) ≡ false) → Plays (HasLooped most goes_on pass) a b
-  loop_done most n a b so ended =
-      plays_as (λ load z xs. IsSoFar goes_on pass n load z xs × (goes_on (after_steps load z xs) ≡ false)) (HasLooped most goes_on pass) a b
-      (λ load z xs is. record { passes = n; loop = record { turns = is.0.turns; before = is.0.before; ends = inl (sym (ap goes_on (after_so_far n load z xs is.0)) ∙ is.1) } })
-      (plays_knowing (IsSoFar goes_on pass n) (λ z. goes_on z ≡ false) a b so ended)
-
-  -- it was given up
-  pub loop_given_up : (most n : ℕ) (a b : StagesState) → n ≡ most → Plays (IsSoFar goes_on pass n) a b → Plays (HasLooped most goes_on pass) a b
-  loop_given_up most n a b last so =
-      plays_as (IsSoFar goes_on pass n) (HasLooped most goes_on pass) a b
-      (λ load z xs is. record { passes = n; loop = record { turns = is.turns; before = is.before; ends = inr last } }) so
+  pub loop_done : (a b : StagesState) → Plays (IsSoFar goes_on pass) a b → ((script : Script) (ts : List Taken) → HasTaken script ts b → goes_on (stages_after script ts) ≡ false) → Plays (HasLooped goes_on pass) a b
+  loop_done a b so ended =
+      plays_as (λ load z xs. IsSoFar goes_on pass load z xs × (goes_on (after_steps load z xs) ≡ false)) (HasLooped goes_on pass) a b
+      (λ load z xs is. record { passes = is.0.passes; loop = record { turns = is.0.turns; before = is.0.before; ends = sym (ap goes_on (after_so_far load z xs is.0)) ∙ is.1 } })
+      (plays_knowing (IsSoFar goes_on pass) (λ z. goes_on z ≡ false) a b so ended)
 
 -- a round of each, then an exchange
 pub plays_telling : (a b c : StagesState) → Plays (λ load z xs. xs ≡ all_rounds z) a b → Plays (λ load z xs. xs ≡ exchange_turns load z) b c → Plays (λ load z xs. xs ≡ telling_rounds load z) a c
@@ -181,14 +177,14 @@ plays_telling a b c =
 -- both loops, and the last rounds
 record AreLoops (load : Workload) (z : Stages) (xs : List Step) : Type 0 where
   answering : List Step
-  first : HasLooped 524288 is_answering answering_rounds load z answering
+  first : HasLooped is_answering answering_rounds load z answering
   telling : List Step
-  second : HasLooped 524288 is_unfinished telling_rounds load (after_steps load z answering) telling
+  second : HasLooped is_unfinished telling_rounds load (after_steps load z answering) telling
   are : xs ≡ answering ++ telling
 
-pub plays_settling : (a b c d : StagesState) → Plays (HasLooped 524288 is_answering answering_rounds) a b → Plays (HasLooped 524288 is_unfinished telling_rounds) b c → Plays (λ load z xs. xs ≡ all_rounds z) c d → Plays (IsSettlingUpTo 524288) a d
+pub plays_settling : (a b c d : StagesState) → Plays (HasLooped is_answering answering_rounds) a b → Plays (HasLooped is_unfinished telling_rounds) b c → Plays (λ load z xs. xs ≡ all_rounds z) c d → Plays IsSettling a d
 plays_settling a b c d first second last =
-    plays_then AreLoops (λ load z xs. xs ≡ all_rounds z) (IsSettlingUpTo 524288) a c d
+    plays_then AreLoops (λ load z xs. xs ≡ all_rounds z) IsSettling a c d
     (λ load z xs ys loops rounds. record {
       answering = loops.answering;
       answers = loops.first.passes;
@@ -198,7 +194,7 @@ plays_settling a b c d first second last =
       second = loops.second.loop;
       turns = ap (λ us. us ++ ys) loops.are ∙ ap (λ us. loops.answering ++ loops.telling ++ us) (rounds ∙ ap (λ us. all_rounds (after_steps load z us)) loops.are);
     })
-    (plays_then (HasLooped 524288 is_answering answering_rounds) (HasLooped 524288 is_unfinished telling_rounds) AreLoops a b c
+    (plays_then (HasLooped is_answering answering_rounds) (HasLooped is_unfinished telling_rounds) AreLoops a b c
     (λ load z xs ys one two. record { answering = xs; first = one; telling = ys; second = two; are = refl }) first second)
     last
 
@@ -323,21 +319,3 @@ link_after P a b s x taken two plays same =
     let dcs : a.workload.dcs ≡ b.workload.dcs = ap (λ (l : Workload). l.dcs) (sym (workload_kept P a b plays taken)) in
     subst (λ (t : StagesState). AreThere x.from x.to t.sites.links) same
     (link_of taken.script (taken.turns ++ settled one.steps) b x.from x.to one.taken (subst (λ n. AreTwo n x.from x.to) dcs two))
-
--- The loops were not given up, by the law of settling.
-pub plays_ended : (a b : StagesState) → ((w : World) (z : Stages) (steps : List Step) → IsLawful w → StandsFor w z → AreQuiet w.workload z → IsSettlingUpTo 524288 w.workload z steps → IsSettling w.workload z steps)
-    → Plays (IsSettlingUpTo 524288) a b → Plays IsSettling a b
-plays_ended a b law plays script ts h =
-    let one = plays script ts h in
-    let z : Stages = stages_after script ts in
-    let w : World = world_of a.workload a.events in
-    let run = run_of script ts a h in
-    let same : w.workload ≡ script.workload = workload_is a.workload a.events ∙ h.workload in
-    record {
-      steps = one.steps;
-      are =
-          subst (λ l. IsSettling l z one.steps) same
-          (law w z one.steps (laws_of_run a.workload a.events (subst FitsLimits (sym h.workload) h.fits.limits) run.0) run.1 (subst (λ l. AreQuiet l z) (sym same) (quiet_after script ts h.fits h.steps h.built))
-          (subst (λ l. IsSettlingUpTo 524288 l z one.steps) (sym same) one.are));
-      taken = one.taken;
-    }

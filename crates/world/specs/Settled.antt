@@ -1,5 +1,5 @@
 -- The turns of settling that the stages take.
-use Rattle.std.specs.Prelude.{◌≡◌, ℕ, ◌+◌, ◌≤◌, ◌%◌, ◌==◌, if◌then◌else◌, Bool, List, [], ◌∷◌, ◌++◌, length, flat_map, Some, All}
+use Rattle.std.specs.Prelude.{◌≡◌, ℕ, ◌+◌, ◌≤◌, ◌%◌, ◌==◌, if◌then◌else◌, Bool, false, List, [], ◌∷◌, ◌++◌, length, flat_map, Some, All}
 use Rattle.abstract_log.specs.declared.command.Workload.{Workload}
 use Rattle.abstract_log.specs.declared.script.Script.{Script}
 use Rattle.abstract_log.specs.declared.script.Step.{Step}
@@ -9,7 +9,7 @@ use Rattle.log_laws.specs.Lawful.{IsLawful}
 use Rattle.stage_world.specs.Stages.{Datacentre, Stages}
 use Rattle.stage_world.specs.Opening.{numbered}
 use Rattle.stage_world.specs.Schedules.{IsStep}
-use Rattle.stage_world.specs.Settling.{Errand, IsLoopUpTo, below}
+use Rattle.stage_world.specs.Settling.{Errand, IsLoop, below, is_answering}
 use Rattle.stage_world.specs.Whole.{StandsFor}
 use Rattle.datacentre.specs.Seen.{DatacentreState, StandsForALog}
 use Rattle.world.specs.Showing.{IsBuiltStep, states_from}
@@ -25,10 +25,10 @@ pub record HasPlayed (such : Workload → Stages → List Step → Type 0) (scri
 abbrev pub Plays : (Workload → Stages → List Step → Type 0) → StagesState → StagesState → Type 0
 Plays such old new = (script : Script) (ts : List Taken) → HasTaken script ts old → HasPlayed such script ts new
 
--- a loop of so many passes or fewer
-pub record HasLooped (most : ℕ) (goes_on : Stages → Bool) (pass : Workload → Stages → List Step) (load : Workload) (z : Stages) (steps : List Step) : Type 0 where
+-- a loop of so many passes
+pub record HasLooped (goes_on : Stages → Bool) (pass : Workload → Stages → List Step) (load : Workload) (z : Stages) (steps : List Step) : Type 0 where
   pub passes : ℕ
-  pub loop : IsLoopUpTo most load goes_on pass z passes steps
+  pub loop : IsLoop load goes_on pass z passes steps
 
 -- steps that settling may take
 abbrev pub MayBePlayed : Workload → List Step → Type 0
@@ -46,6 +46,10 @@ pub record AreKnown (z : Stages) (datacentres : List DatacentreState) : Type 0 w
   pub stands : StandsFor world z
   pub shown : datacentres ≡ states_from 0 z.datacentres
   pub few : length z.datacentres ≤ 8
+
+-- every command is answered
+abbrev pub AreAnswered : List DatacentreState → Type 0
+AreAnswered datacentres = (z : Stages) → AreKnown z datacentres → is_answering z ≡ false
 
 -- the first turns of a ring of so many queues, from its holder on
 abbrev pub ring_from : ℕ → ℕ → ℕ → ℕ → List Step

@@ -3,7 +3,7 @@ ghost use Rattle.std.specs.Prelude.{◌≡◌, ◌<◌, OnOk};
 ghost use Rattle.std.specs.List.{All};
 ghost use Rattle.stage_world.specs.Schedules.{AreTwo};
 ghost use Rattle.stage_world.specs.Settling.{IsSettling, all_rounds, answering_rounds, errand_turns, exchange_turns, is_answering, is_unfinished, rounds, sent_and_delivered, telling_rounds};
-ghost use Rattle.world.specs.Settled.{HasLooped, MayBePlayed, Plays};
+ghost use Rattle.world.specs.Settled.{AreAnswered, HasLooped, MayBePlayed, Plays};
 ghost use Rattle.world.specs.Taking.{IsTaken};
 
 use crate::errands::{Errand, errands};
@@ -12,47 +12,40 @@ use crate::packets::packets_in;
 use crate::stages::Stages;
 use abstract_log::Step;
 use cz_base::{DcId, NoMemory};
-use settling_laws::ample_passes_are_enough;
-
-// More passes than each loop makes.
-const PASSES: u32 = 524288;
+use settling_laws::{answering_ends, telling_ends};
 
 impl Stages {
-    /// Takes the turns of settling. Each loop ends before it has made as many passes as are counted here.
+    /// Takes the turns of settling.
     pub(crate) fn settle(&mut self) -> Result<(), NoMemory>
         requires { IsTaken self.old }
         ensures { OnOk result (Plays IsSettling self.old self.new) }
     {
         self.play_until_answered()?;
         self.play_until_told()?;
-        self.play_everywhere()?;
-        ample_passes_are_enough();
-        Ok(())
+        self.play_everywhere()
     }
 
     // Local rounds where a command is not answered, until all are.
     fn play_until_answered(&mut self) -> Result<(), NoMemory>
         requires { IsTaken self.old }
-        ensures { OnOk result (Plays (HasLooped 524288 is_answering answering_rounds) self.old self.new) }
+        ensures turns { OnOk result (Plays (HasLooped is_answering answering_rounds) self.old self.new) }
+        ensures answered { OnOk result (AreAnswered self.new.sites.datacentres) }
     {
-        for _pass in 0..PASSES {
-            if !is_answering(&self.sites.datacentres) {
-                return Ok(());
-            }
+        answering_ends();
+        while is_answering(&self.sites.datacentres) {
             self.play_where_waiting()?;
         }
         Ok(())
     }
 
-    // Local rounds and exchanges until all is answered and told.
+    // Local rounds and exchanges until every log has every record.
     fn play_until_told(&mut self) -> Result<(), NoMemory>
-        requires { IsTaken self.old }
-        ensures { OnOk result (Plays (HasLooped 524288 is_unfinished telling_rounds) self.old self.new) }
+        requires taken { IsTaken self.old }
+        requires answered { AreAnswered self.old.sites.datacentres }
+        ensures { OnOk result (Plays (HasLooped is_unfinished telling_rounds) self.old self.new) }
     {
-        for _pass in 0..PASSES {
-            if !is_unfinished(&self.sites.datacentres) {
-                return Ok(());
-            }
+        telling_ends();
+        while is_unfinished(&self.sites.datacentres) {
             self.play_and_tell()?;
         }
         Ok(())

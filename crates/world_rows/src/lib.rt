@@ -1,5 +1,10 @@
-//! A schedule of two datacentres, as a test. It has no code of its own and proves nothing for others.
+//! Schedules of several datacentres, as tests: one that is taken step by step, and one that is broken off half way and settled. It has
+//! no code of its own and proves nothing for others.
 #![tactic(auto)]
 
+#[cfg(test)]
+mod half_way;
+#[cfg(test)]
+mod steps;
 #[cfg(test)]
 mod two_datacentres;

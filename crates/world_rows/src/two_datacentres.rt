@@ -1,10 +1,9 @@
-ghost use Rattle.std.specs.Prelude.{◌≡◌, [], ◌∷◌, IfOk, IsTrue};
+ghost use Rattle.std.specs.Prelude.{◌≡◌, [], ◌∷◌, IfOk};
 ghost use Rattle.abstract_log.specs.declared.command.Command.TheVariants.{Read};
 ghost use Rattle.abstract_log.specs.Fits.{FitsScript, FitsSizes};
-ghost use Rattle.stage_world.specs.Schedules.{AreTwo, IsStep};
-ghost use Rattle.world.specs.Showing.{IsBuiltStep};
 ghost use Rattle.world_rows.specs.Given.{AreOnePut, IsGiven};
 
+use crate::steps::may_take;
 use abstract_log::{Command, Event, Outcome, Script, SessionPlan, Sizes, Step, Workload};
 use cz_base::{Body, DcId, Name, Seq};
 use std::alloc::Global;
@@ -81,38 +80,6 @@ fn script(alloc: Global) -> Result<Script, Fail>
         sizes: each,
         steps: Seq::new(alloc),
     })
-}
-
-// Whether the step is one that these stages may take.
-fn may_take(workload: &Workload, step: &Step) -> bool
-    ensures step { IsTrue result → IsStep workload.now step.now }
-    ensures built { IsTrue result → IsBuiltStep step.now }
-{
-    let dcs = workload.dcs;
-    match *step {
-        Step::Client { s } => (s as usize) < workload.sessions.len(),
-        Step::Flush { d, b: _ } => d.number() < dcs,
-        Step::Pass { d, f: _, q: _ } => d.number() < dcs,
-        Step::Stamp { d, q: _ } => d.number() < dcs,
-        Step::Token { d } => d.number() < dcs,
-        Step::Place { d, q: _, m: _ } => d.number() < dcs,
-        Step::Gossip { d, m: _, k: _ } => d.number() < dcs,
-        Step::Post { d, m: _, i: _ } => d.number() < dcs,
-        Step::Learn { d } => d.number() < dcs,
-        Step::Floor { d, p: _ } => d.number() < dcs,
-        Step::Collect { d, m: _ } => d.number() < dcs,
-        Step::Send { d, k: _, e } => are_two(dcs, d, e),
-        Step::Deliver { d, e, k: _, r: _ } => are_two(dcs, d, e),
-        Step::Lose { d, e, k: _ } => are_two(dcs, d, e),
-        Step::Copy { d, e, k: _ } => are_two(dcs, d, e),
-        _ => false,
-    }
-}
-
-fn are_two(dcs: u32, d: DcId, e: DcId) -> bool
-    ensures { IsTrue result → AreTwo dcs d e }
-{
-    d.number() < dcs && e.number() < dcs && d.number() != e.number()
 }
 
 fn take_all(stages: &mut Stages, workload: &Workload, steps: &[Step]) -> Result<(), Fail>
