@@ -1,6 +1,7 @@
 use Rattle.std.proofs.Common.{sym, subst, ◌∙◌}
 use Rattle.stage_world.specs.Settling.{answering_rounds, is_answering}
-use Rattle.world.specs.Taking.{HasTaken}
+use Rattle.world.specs.Settled.{AreKnown}
+use Rattle.world.specs.Taking.{HasTaken, StagesState}
 use Rattle.world.proofs.KnownLemmas.{known_of}
 use Rattle.world.proofs.NearerLemmas.{answers_end, pass_nearer}
 use Rattle.world.proofs.SettledLemmas.{loop_done, none_so_far, one_pass_more, still_taken}
@@ -25,4 +26,4 @@ returns-clause-turns c =
     loop_done is_answering answering_rounds _ _ c.loop-self.invariant (λ script ts h. sym (c.is_answering.ensures _ (known_of script ts _ (subst (HasTaken script ts) (sym c.self.view_is) h))) ∙ c.loop-self-test.false)
 
 pub returns-clause-answered : goal.returns-clause-answered
-returns-clause-answered c z known = sym (c.is_answering.ensures z known) ∙ c.loop-self-test.false
+returns-clause-answered c z known = sym (c.is_answering.ensures z (subst (λ (s : StagesState). AreKnown z s.sites.datacentres) (sym c.self.view_is) known)) ∙ c.loop-self-test.false
