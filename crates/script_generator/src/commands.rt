@@ -1,5 +1,4 @@
-ghost use Rattle.std.specs.Prelude.{◌≡◌, ◌<◌, IfOk};
-ghost use Rattle.script_generator.specs.Draws.{many};
+ghost use Rattle.std.specs.Prelude.{◌≡◌, IfOk};
 ghost use Rattle.script_generator.specs.Generated.{key, tag, command_by, command, plan};
 
 use crate::datacentres::{DATACENTRES, datacentre};
@@ -33,7 +32,7 @@ fn command(alloc: Global, draws: &mut Draws, s: u32, k: u32) -> Result<Command, 
     command_by(alloc, draws, s, k, choice)
 }
 
-// Command `k` of session `s`, by the number that chose it.
+// Command `k` of session `s`, by the number that chose its row.
 #[tactic(auto, unfolding(crate::specs::Generated::command_by))]
 fn command_by(
     alloc: Global,

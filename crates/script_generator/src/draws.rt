@@ -1,5 +1,4 @@
 ghost use Rattle.std.specs.Prelude.{◌≡◌, ◌<◌, ◌≤◌};
-ghost use Rattle.rand_pcg.specs.Lcg.{Lcg};
 ghost use Rattle.script_generator.specs.Draws.{seeded, draw};
 
 use rand_core::utils::NextWord;
@@ -34,7 +33,7 @@ impl Draws {
         }
     }
 
-    /// The next number, from 0 and below `limit`.
+    /// The next number, which is below `limit`.
     #[tactic(auto, unfolding(crate::specs::Draws::draw))]
     pub fn draw(&mut self, limit: u32) -> u32
         requires { 1 ≤ limit }

@@ -30,6 +30,7 @@ const SIZES: Sizes = Sizes {
 };
 
 /// The script that a number gives: 3 datacentres, 12 sessions with 100 commands each, and 20,000 steps.
+/// It fails only where memory runs out.
 pub fn generate(alloc: Global, seed: u64) -> Result<Script, NoMemory>
     ensures script { IfOk result (λ script. script ≡ generated seed) }
 

@@ -1,6 +1,5 @@
-ghost use Rattle.std.specs.Prelude.{◌≡◌, ◌<◌, ◌≤◌, IfOk};
+ghost use Rattle.std.specs.Prelude.{◌≡◌, IfOk};
 ghost use Rattle.cz_base.specs.Text.{IsName, IsBody};
-ghost use Rattle.script_generator.specs.Draws.{draw};
 ghost use Rattle.script_generator.specs.Generated.{key_name, tag_name, put_body, append_body};
 
 use cz_base::{Body, BodyFault, Name, NameFault, NoMemory};
