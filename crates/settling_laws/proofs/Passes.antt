@@ -1,22 +1,22 @@
 -- How many passes a loop of settling still makes. The datacentres alone decide it, whatever is in the links.
-use Rattle.std.proofs.Common.{◌≡◌, ◌≢◌, ℕ, zero, suc, ◌-◌, ◌<◌, ◌≤◌, Bool, true, false, cond, List, [], ◌∷◌, ◌++◌, length, get_or, set, replicate, refl, ap, ap₂, sym, subst, ◌∙◌, inl, inr, arith}
+use Rattle.std.proofs.Common.{◌≡◌, ℕ, zero, suc, ◌-◌, ◌<◌, ◌≤◌, Bool, true, false, cond, List, [], ◌∷◌, length, get_or, set, replicate, refl, ap, ap₂, sym, subst, ◌∙◌, inl, inr, arith}
 use Rattle.std.specs.List.{All}
 use Rattle.std.proofs.lemmas.Bool.{cases_lt, cases_Bool, cond-true, cond-false, true≢false}
 use Rattle.std.proofs.lemmas.List.{get_or_default, get_or_past, get_or-replicate, length-replicate, same_lists}
 use Rattle.std.proofs.lemmas.List.Elements.{All-nil, All-head, All-tail, All-weaker}
 use Rattle.abstract_log.specs.declared.command.Workload.{Workload}
 use Rattle.abstract_log.specs.declared.script.Step.{Step}
+use Rattle.abstract_log.specs.Worlds.{log_of, table_of}
 use Rattle.record_codec.specs.declared.message.Message.{Message}
 use Rattle.stage_world.specs.Stages.{Datacentre, Stages}
 use Rattle.stage_world.specs.MoreTurns.{message_of, received}
-use Rattle.abstract_log.specs.Worlds.{log_of, table_of}
 use Rattle.stage_world.specs.Whole.{IsTold, datacentre_at, link_at, nowhere_at}
 use Rattle.stage_world.specs.Schedules.{after_steps}
-use Rattle.stage_world.specs.Settling.{Errand, all_rounds, after_passes, answering_rounds, below, errand_turns, errands, exchange, exchange_turns, has_unanswered, is_agreed, is_answering, is_due, is_unfinished, local_round, rounds, sent_and_delivered, telling_rounds, turns_of_passes, IsLoop}
+use Rattle.stage_world.specs.Settling.{Errand, all_rounds, after_passes, answering_rounds, errand_turns, errands, exchange, exchange_turns, has_unanswered, is_answering, is_due, is_unfinished, sent_and_delivered, telling_rounds, IsLoop}
 use Rattle.settling_laws.specs.Rounds.{IsStanding}
 use Rattle.settling_laws.proofs.Rounds.{AreRoundsOf, after_steps-append, rounded_at, rounds_are}
 use Rattle.settling_laws.proofs.Errands.{errand_datacentres}
-use Rattle.settling_laws.proofs.Exchange.{IsErrand, IsRun, errand_run, errand_stays}
+use Rattle.settling_laws.proofs.Exchange.{IsErrand, errand_run, errand_stays}
 use Rattle.settling_laws.proofs.TellingPass.{all_errands, all_of, all_round, dcs_of, telling}
 
 -- A loop that ends

@@ -1,5 +1,5 @@
 -- Settling: the turns by which every command is answered and every log gets every record, as a function of the stages.
-use Rattle.std.specs.Prelude.{◌≡◌, ◌⊎◌, ℕ, zero, suc, ◌+◌, ◌<◌, ◌%◌, ◌==◌, ◌||◌, Bool, true, false, not, if◌then◌else◌, nat_lt, List, [], ◌∷◌, ◌++◌, length, map, filter, flat_map}
+use Rattle.std.specs.Prelude.{◌≡◌, ℕ, zero, suc, ◌+◌, ◌<◌, ◌%◌, ◌==◌, ◌||◌, Bool, true, false, not, if◌then◌else◌, nat_lt, List, [], ◌∷◌, ◌++◌, length, map, filter, flat_map}
 use Rattle.std.specs.List.{list_any, list_all}
 use Rattle.abstract_log.specs.declared.command.Workload.{Workload}
 use Rattle.abstract_log.specs.declared.script.Step.{Step}
@@ -123,12 +123,6 @@ pub record IsLoop (load : Workload) (goes_on : Stages → Bool) (pass : Workload
   pub before : (n : ℕ) → n < passes → goes_on (after_passes load pass z n) ≡ true
   pub ends : goes_on (after_passes load pass z passes) ≡ false
 
--- The same of a loop that is given up after so many passes.
-pub record IsLoopUpTo (most : ℕ) (load : Workload) (goes_on : Stages → Bool) (pass : Workload → Stages → List Step) (z : Stages) (passes : ℕ) (steps : List Step) : Type 0 where
-  pub turns : steps ≡ turns_of_passes load pass z passes
-  pub before : (n : ℕ) → n < passes → goes_on (after_passes load pass z n) ≡ true
-  pub ends : (goes_on (after_passes load pass z passes) ≡ false) ⊎ (passes ≡ most)
-
 -- The turns of settling, from stages z on: rounds until every command is answered, rounds and exchanges until every log has every
 -- record, and a last round of each datacentre.
 pub record IsSettling (load : Workload) (z : Stages) (steps : List Step) : Type 0 where
@@ -138,14 +132,4 @@ pub record IsSettling (load : Workload) (z : Stages) (steps : List Step) : Type 
   pub telling : List Step
   pub tells : ℕ
   pub second : IsLoop load is_unfinished telling_rounds (after_steps load z answering) tells telling
-  pub turns : steps ≡ answering ++ telling ++ all_rounds (after_steps load z (answering ++ telling))
-
--- The same, with each loop given up after so many passes.
-pub record IsSettlingUpTo (most : ℕ) (load : Workload) (z : Stages) (steps : List Step) : Type 0 where
-  pub answering : List Step
-  pub answers : ℕ
-  pub first : IsLoopUpTo most load is_answering answering_rounds z answers answering
-  pub telling : List Step
-  pub tells : ℕ
-  pub second : IsLoopUpTo most load is_unfinished telling_rounds (after_steps load z answering) tells telling
   pub turns : steps ≡ answering ++ telling ++ all_rounds (after_steps load z (answering ++ telling))

@@ -1,5 +1,5 @@
 -- Turns of settling one after another.
-use Rattle.std.proofs.Common.{◌≡◌, inl, inr, Result, Ok, Err, OnOk, ℕ, zero, suc, ◌+◌, ◌<◌, ◌≤◌, Bool, true, false, List, [], ◌∷◌, ◌++◌, length, take, get_or, refl, ap, ap₂, sym, ◌∙◌, subst, arith, add-one, append_assoc, below_more}
+use Rattle.std.proofs.Common.{◌≡◌, Result, Ok, Err, OnOk, ℕ, zero, suc, ◌+◌, ◌<◌, ◌≤◌, Bool, true, false, List, [], ◌∷◌, ◌++◌, length, take, get_or, refl, ap, ap₂, sym, ◌∙◌, subst, arith, add-one, append_assoc, below_more}
 use Rattle.std.specs.List.{All, filter}
 use Rattle.std.proofs.lemmas.Bool.{cond-true, cond-false}
 use Rattle.std.proofs.lemmas.List.{append-nil, map-append}
@@ -8,25 +8,17 @@ use Rattle.std.proofs.Math.Seq.{take-suc}
 use Rattle.abstract_log.specs.declared.command.Workload.{Workload}
 use Rattle.abstract_log.specs.declared.script.Script.{Script}
 use Rattle.abstract_log.specs.declared.script.Step.{Step}
-use Rattle.abstract_log.specs.declared.world.World.{World}
-use Rattle.abstract_log.specs.Fits.{FitsLimits}
-use Rattle.abstract_log.specs.Runs.{world_of}
-use Rattle.log_laws.specs.Lawful.{IsLawful}
-use Rattle.log_laws.proofs.LimitedRuns.{laws_of_run, workload_is}
-use Rattle.settling_laws.specs.Ending.{AreQuiet}
 use Rattle.stage_world.specs.Stages.{Stages}
 use Rattle.stage_world.specs.Opening.{opening}
 use Rattle.abstract_log.specs.declared.script.Step.TheVariants.{Deliver, Send}
 use Rattle.stage_world.specs.LinkTurns.{link_length}
-use Rattle.stage_world.specs.Whole.{StandsFor, datacentre_at}
+use Rattle.stage_world.specs.Whole.{datacentre_at}
 use Rattle.stage_world.specs.Schedules.{AreTwo, IsStep, after_steps, step_of}
 use Rattle.stage_world.specs.Settling.{Errand, IsSettling, after_passes, all_rounds, answering_rounds, below, errand_turns, errands, exchange, exchange_turns, has_unanswered, is_answering, is_due, is_unfinished, rounds, sent_and_delivered, telling_rounds, turns_of_passes}
 use Rattle.world.specs.Settled.{HasLooped, MayBePlayed, Plays}
 use Rattle.world.specs.Showing.{IsBuiltStep}
 use Rattle.world.specs.Links.{AreThere, packets_at}
 use Rattle.world.proofs.MovingLemmas.{length_are, links_there}
-use Rattle.world.proofs.QuietLemmas.{quiet_after}
-use Rattle.world.proofs.TakingLemmas.{run_of}
 use Rattle.world.proofs.RoundLemmas.{all_below, take_all}
 use Rattle.world.proofs.SettlingLemmas.{errands_two, rounds_may}
 use Rattle.world.specs.Taking.{HasTaken, IsTaken, StagesState, Taken, settled, stages_after, steps_of}
