@@ -13,10 +13,10 @@ use Rattle.sender_receiver.specs.Stocks.{Stocked, IsRisingFrom, records_in}
 use Rattle.sender_receiver.proofs.Walking.{some_told, none_told}
 
 -- a next new record is what is told first
-pub tells : {A : Type 0} (seen : A → Stocked) (d known : ℕ) (held : List Stocked) (next : Option A) → IsRisingFrom 0 held → option_map seen next ≡ next_new d known 0 held
-    → IsTrue (is_some next) ↔ (first_new d known (records_in held) ≢ [])
-tells seen d known held None rising is = (λ no. absurd (false≢true no), λ some. absurd (some (none_told d known held rising (sym is))))
-tells seen d known held (Some x) rising is = (λ _. some_told d known held (seen x) rising (sym is), λ _. refl)
+pub tells : {A : Type 0} (seen : A → Stocked) (d known : ℕ) (held : List Stocked) (next : Option A) (some : Bool) → IsRisingFrom 0 held
+    → option_map seen next ≡ next_new d known 0 held → some ≡ is_some next → IsTrue some ↔ (first_new d known (records_in held) ≢ [])
+tells seen d known held None some rising is told = (λ yes. absurd (false≢true (sym told ∙ yes)), λ has. absurd (has (none_told d known held rising (sym is))))
+tells seen d known held (Some x) some rising is told = (λ _. some_told d known held (seen x) rising (sym is), λ _. told)
 
 -- the first that passes two tests is the first to pass the second of those that pass the first
 pub both_tests : (p q : Slot Record → Bool) (es : List (Slot Record)) → find q (filter p es) ≡ find (λ e. p e && q e) es
