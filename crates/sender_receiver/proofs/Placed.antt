@@ -1,11 +1,13 @@
 -- A list of records as a stock.
-use Rattle.std.proofs.Common.{◌≡◌, ℕ, zero, suc, ◌+◌, ◌-◌, ◌<◌, ◌≤◌, ◌==◌, cond, List, [], ◌∷◌, length, find, Option, Some, None, IsSome, slice_get, refl, ap, sym, ◌∙◌, arith, inl, inr}
+use Rattle.std.proofs.Common.{◌≡◌, ℕ, zero, suc, ◌+◌, ◌-◌, ◌<◌, ◌≤◌, ◌==◌, cond, List, [], ◌∷◌, length, find, Option, Some, None, IsSome, slice_get, get_or, drop, true, false, refl, ap, sym, ◌∙◌, add-one, arith, inl, inr}
 use Rattle.std.specs.Prelude.{nat_lt}
 use Rattle.std.specs.Option.{option_map}
 use Rattle.std.proofs.lemmas.Bool.{lt-ltb, le-ltb, eq-eqb, ne_eqb, cases_lt}
 use Rattle.std.proofs.lemmas.Option.{slice_get_within}
 use Rattle.causal_deps.specs.declared.record.Record.{Record}
 use Rattle.sender_receiver.specs.Stocks.{Stocked, place_after, record_at, records_in, placed_from}
+use Rattle.sender_receiver.specs.Choosing.{is_new_above, next_new}
+use Rattle.std.proofs.lemmas.List.{at_drop_more, drop_all}
 
 -- the first place after one that is passed is looked for in the rest
 after_here : (n : ℕ) (r : Record) (rs : List Record) (lid : ℕ) → lid < n → place_after (placed_from n (r ∷ rs)) lid ≡ Some n
@@ -74,3 +76,30 @@ not_missing records lid some none =
 pub records_in-placed_from : (n : ℕ) (records : List Record) → records_in (placed_from n records) ≡ records
 records_in-placed_from n [] = refl
 records_in-placed_from n (r ∷ rs) = ap (λ xs. r ∷ xs) (records_in-placed_from (suc n) rs)
+
+-- the first new record is looked for in what is left, where the first i are none
+module _ (d known lid : ℕ) where
+  abbrev pub AreOld : List Record → ℕ → Type 0
+  AreOld records i = next_new d known lid (placed_from (i + 1) (drop i records)) ≡ next_new d known lid (placed_from 1 records)
+
+  left : (records : List Record) (i : ℕ) (r : Record) → i < length records → r ≡ get_or records i r
+      → next_new d known lid (placed_from (i + 1) (drop i records)) ≡ cond (is_new_above d known lid (record { lid = i + 1; rec = r })) (Some (record { lid = i + 1; rec = r })) (next_new d known lid (placed_from (i + 1 + 1) (drop (i + 1) records)))
+  left records i r within is =
+      at_drop_more (λ rs. next_new d known lid (placed_from (i + 1) rs)) records i r within
+      ∙ ap (λ x. next_new d known lid (placed_from (i + 1) (x ∷ drop (i + 1) records))) (sym is)
+      ∙ ap (λ n. cond (is_new_above d known lid (record { lid = i + 1; rec = r })) (Some (record { lid = i + 1; rec = r })) (next_new d known lid (placed_from n (drop (i + 1) records)))) (sym (add-one (i + 1)))
+
+  pub old_more : (records : List Record) (i : ℕ) (r : Record) → i < length records → r ≡ get_or records i r → is_new_above d known lid (record { lid = i + 1; rec = r }) ≡ false
+      → AreOld records i → AreOld records (i + 1)
+  old_more records i r within is old h =
+      sym (left records i r within is ∙ ap (λ b. cond b (Some (record { lid = i + 1; rec = r })) (next_new d known lid (placed_from (i + 1 + 1) (drop (i + 1) records)))) old) ∙ h
+
+  pub new_here : (records whole : List Record) (i : ℕ) (r : Record) → records ≡ whole → i < length records → r ≡ get_or records i r → is_new_above d known lid (record { lid = i + 1; rec = r }) ≡ true
+      → AreOld records i → Some (record { lid = i + 1; rec = r }) ≡ next_new d known lid (placed_from 1 whole)
+  new_here records whole i r same within is new h =
+      sym (left records i r within is ∙ ap (λ b. cond b (Some (record { lid = i + 1; rec = r })) (next_new d known lid (placed_from (i + 1 + 1) (drop (i + 1) records)))) new)
+      ∙ h ∙ ap (λ rs. next_new d known lid (placed_from 1 rs)) same
+
+  pub all_old : (records whole : List Record) (i : ℕ) → records ≡ whole → length records ≤ i → AreOld records i → None ≡ next_new d known lid (placed_from 1 whole)
+  all_old records whole i same past h =
+      ap (λ rs. next_new d known lid (placed_from (i + 1) rs)) (sym (drop_all i records past)) ∙ h ∙ ap (λ rs. next_new d known lid (placed_from 1 rs)) same

@@ -1,24 +1,16 @@
--- A walk over a stock, place after place.
-use Rattle.std.proofs.Common.{◌≡◌, ℕ, zero, suc, ◌+◌, ◌-◌, ◌<◌, ◌≤◌, ◌==◌, true, false, cond, List, [], ◌∷◌, ◌++◌, length, take, filter, find, Option, Some, None, IsSome, refl, ap, sym, subst, ◌∙◌, arith, inl, inr, append_assoc, append-nil}
+-- A walk over a stock, from one new record to the next.
+use Rattle.std.proofs.Common.{◌≡◌, ◌≢◌, ℕ, zero, suc, ◌+◌, ◌-◌, ◌<◌, ◌≤◌, Bool, true, false, cond, ◌&&◌, List, [], ◌∷◌, ◌++◌, length, take, filter, Some, None, refl, ap, sym, subst, ◌∙◌, arith, inl, inr, append_assoc, append-nil}
 use Rattle.std.specs.Prelude.{nat_lt}
-use Rattle.std.specs.Option.{option_map}
-use Rattle.std.proofs.lemmas.Bool.{lt-ltb, le-ltb, eq-eqb, ne_eqb, cases_lt}
+use Rattle.std.proofs.lemmas.Bool.{lt-ltb, le-ltb, cases_lt, cases_Bool}
 use Rattle.std.proofs.lemmas.Option.{same_Some}
 use Rattle.std.proofs.lemmas.List.{length_push}
 use Rattle.causal_deps.specs.declared.record.Record.{Record}
-use Rattle.sender_receiver.specs.Stocks.{Stocked, IsRisingFrom, place_after, record_at, records_in}
-use Rattle.sender_receiver.specs.Choosing.{is_new, first_new}
+use Rattle.sender_receiver.specs.Stocks.{Stocked, IsRisingFrom, records_in}
+use Rattle.sender_receiver.specs.Choosing.{is_new, first_new, next_new}
 
 -- what is held above a place
-abbrev pub above : ℕ → List Stocked → List Stocked
+abbrev above : ℕ → List Stocked → List Stocked
 above lid held = filter (λ x. nat_lt lid x.lid) held
-
--- the first that is held above a place, or at one
-abbrev first_above : ℕ → List Stocked → Option Stocked
-first_above lid held = find (λ x. nat_lt lid x.lid) held
-
-abbrev first_at : ℕ → List Stocked → Option Stocked
-first_at lid held = find (λ x. x.lid == lid) held
 
 kept : (lid : ℕ) (x : Stocked) (xs : List Stocked) → lid < x.lid → above lid (x ∷ xs) ≡ x ∷ above lid xs
 kept lid x xs past = ap (λ b. cond b (x ∷ above lid xs) (above lid xs)) (lt-ltb lid x.lid past)
@@ -26,153 +18,141 @@ kept lid x xs past = ap (λ b. cond b (x ∷ above lid xs) (above lid xs)) (lt-l
 left_out : (lid : ℕ) (x : Stocked) (xs : List Stocked) → x.lid ≤ lid → above lid (x ∷ xs) ≡ above lid xs
 left_out lid x xs before = ap (λ b. cond b (x ∷ above lid xs) (above lid xs)) (le-ltb lid x.lid before)
 
-found_here : (lid : ℕ) (x : Stocked) (xs : List Stocked) → lid < x.lid → first_above lid (x ∷ xs) ≡ Some x
-found_here lid x xs past = ap (λ b. cond b (Some x) (first_above lid xs)) (lt-ltb lid x.lid past)
-
-found_later : (lid : ℕ) (x : Stocked) (xs : List Stocked) → x.lid ≤ lid → first_above lid (x ∷ xs) ≡ first_above lid xs
-found_later lid x xs before = ap (λ b. cond b (Some x) (first_above lid xs)) (le-ltb lid x.lid before)
-
 all_above : (low lid : ℕ) (xs : List Stocked) → IsRisingFrom low xs → lid ≤ low → above lid xs ≡ xs
 all_above low lid [] rising within = refl
 all_above low lid (x ∷ xs) rising within =
     kept lid x xs (omega (arith, rising.0)) ∙ ap (λ ys. x ∷ ys) (all_above x.lid lid xs rising.1 (omega (arith, rising.0)))
 
--- x is the first above the place, and what is held there
-record IsNext (lid : ℕ) (held : List Stocked) (x : Stocked) : Type 0 where
-  past : lid < x.lid
-  rest : above lid held ≡ x ∷ above x.lid held
-  there : first_at x.lid held ≡ Some x
+module _ (d known : ℕ) where
+  -- the new records above a place
+  abbrev pub news : ℕ → List Stocked → List Record
+  news lid held = filter (is_new d known) (records_in (above lid held))
 
-next_here : (lid : ℕ) (y : Stocked) (ys : List Stocked) → IsRisingFrom y.lid ys → lid < y.lid → IsNext lid (y ∷ ys) y
-next_here lid y ys rising past = record {
-  past = past;
-  rest = kept lid y ys past
-      ∙ ap (λ t. y ∷ t) (all_above y.lid lid ys rising (omega arith) ∙ sym (all_above y.lid y.lid ys rising (omega arith)) ∙ sym (left_out y.lid y ys (omega arith)));
-  there = ap (λ b. cond b (Some y) (first_at y.lid ys)) (eq-eqb y.lid y.lid refl);
-}
+  -- the first is new and above the place, or what is next stands behind it
+  next_here : (lid : ℕ) (y : Stocked) (ys : List Stocked) → lid < y.lid → is_new d known y.rec ≡ true → next_new d known lid (y ∷ ys) ≡ Some y
+  next_here lid y ys past new =
+      ap (λ b. cond (b && is_new d known y.rec) (Some y) (next_new d known lid ys)) (lt-ltb lid y.lid past) ∙ ap (λ b. cond b (Some y) (next_new d known lid ys)) new
 
-next_later : (lid : ℕ) (x y : Stocked) (ys : List Stocked) → y.lid ≤ lid → IsNext lid ys x → IsNext lid (y ∷ ys) x
-next_later lid x y ys before later = record {
-  past = later.past;
-  rest = left_out lid y ys before ∙ later.rest ∙ ap (λ t. x ∷ t) (sym (left_out x.lid y ys (omega (arith, later.past))));
-  there = ap (λ b. cond b (Some y) (first_at x.lid ys)) (ne_eqb y.lid x.lid (λ e. omega (arith, e, later.past))) ∙ later.there;
-}
+  old_later : (lid : ℕ) (y : Stocked) (ys : List Stocked) → is_new d known y.rec ≡ false → next_new d known lid (y ∷ ys) ≡ next_new d known lid ys
+  old_later lid y ys old = go (nat_lt lid y.lid)
+    where
+      go : (b : Bool) → cond (b && is_new d known y.rec) (Some y) (next_new d known lid ys) ≡ next_new d known lid ys
+      go true = ap (λ b. cond b (Some y) (next_new d known lid ys)) old
+      go false = refl
 
-next_is : (low lid : ℕ) (held : List Stocked) (x : Stocked) → IsRisingFrom low held → first_above lid held ≡ Some x → IsNext lid held x
-next_is low lid [] x rising e = absurd (cc)
-next_is low lid (y ∷ ys) x rising e = elim (cases_lt lid y.lid) [
-  | inl past ↦
-      let P : Stocked → Type 0 = λ s. IsNext lid (y ∷ ys) s in
-      subst P (same_Some y x (sym (found_here lid y ys past) ∙ e)) (next_here lid y ys rising.1 past)
-  | inr before ↦ next_later lid x y ys before (next_is y.lid lid ys x rising.1 (sym (found_later lid y ys before) ∙ e))
-]
+  low_later : (lid : ℕ) (y : Stocked) (ys : List Stocked) → y.lid ≤ lid → next_new d known lid (y ∷ ys) ≡ next_new d known lid ys
+  low_later lid y ys low = ap (λ b. cond (b && is_new d known y.rec) (Some y) (next_new d known lid ys)) (le-ltb lid y.lid low)
 
-none_above : (lid : ℕ) (held : List Stocked) → first_above lid held ≡ None → above lid held ≡ []
-none_above lid [] e = refl
-none_above lid (y ∷ ys) e = elim (cases_lt lid y.lid) [
-  | inl past ↦ absurd (let f : Some y ≡ None = sym (found_here lid y ys past) ∙ e in cc)
-  | inr before ↦ left_out lid y ys before ∙ none_above lid ys (sym (found_later lid y ys before) ∙ e)
-]
+  -- so are the new records
 
-of_some : (o : Option Stocked) (next : ℕ) → option_map (λ (x : Stocked). x.lid) o ≡ Some next → (x : Stocked) × (o ≡ Some x) × (x.lid ≡ next)
-of_some None next e = absurd (cc)
-of_some (Some x) next e = (x, refl, same_Some x.lid next e)
+  news_here : (lid : ℕ) (y : Stocked) (ys : List Stocked) → lid < y.lid → is_new d known y.rec ≡ true → news lid (y ∷ ys) ≡ y.rec ∷ news lid ys
+  news_here lid y ys past new = ap (λ xs. filter (is_new d known) (records_in xs)) (kept lid y ys past) ∙ ap (λ b. cond b (y.rec ∷ news lid ys) (news lid ys)) new
 
-of_none : (o : Option Stocked) → option_map (λ (x : Stocked). x.lid) o ≡ None → o ≡ None
-of_none None e = refl
-of_none (Some x) e = absurd (cc)
+  old_news : (lid : ℕ) (y : Stocked) (ys : List Stocked) → is_new d known y.rec ≡ false → news lid (y ∷ ys) ≡ news lid ys
+  old_news lid y ys old = go (nat_lt lid y.lid)
+    where
+      go : (b : Bool) → filter (is_new d known) (records_in (cond b (y ∷ above lid ys) (above lid ys))) ≡ news lid ys
+      go true = ap (λ b. cond b (y.rec ∷ news lid ys) (news lid ys)) old
+      go false = refl
 
-next_at : (held : List Stocked) (lid next : ℕ) → IsRisingFrom 0 held → place_after held lid ≡ Some next → (x : Stocked) × IsNext lid held x × (x.lid ≡ next)
-next_at held lid next rising e =
-    let found = of_some (first_above lid held) next e in
-    (found.0, next_is 0 lid held found.0 rising found.1, found.2)
+  low_news : (lid : ℕ) (y : Stocked) (ys : List Stocked) → y.lid ≤ lid → news lid (y ∷ ys) ≡ news lid ys
+  low_news lid y ys low = ap (λ xs. filter (is_new d known) (records_in xs)) (left_out lid y ys low)
 
-record_of_next : (held : List Stocked) (lid next : ℕ) (x : Stocked) → IsNext lid held x → x.lid ≡ next → record_at held next ≡ Some x.rec
-record_of_next held lid next x is at = ap (λ n. record_at held n) (sym at) ∙ ap (λ o. option_map (λ (y : Stocked). y.rec) o) is.there
+  -- x is past the place, and its record is the first of the new ones
+  pub record IsNext (lid : ℕ) (held : List Stocked) (x : Stocked) : Type 0 where
+    pub past : lid < x.lid
+    pub rest : news lid held ≡ x.rec ∷ news x.lid held
 
--- the next place has a record
-pub is_there : (held : List Stocked) (lid next : ℕ) → IsRisingFrom 0 held → place_after held lid ≡ Some next → IsSome (record_at held next)
-is_there held lid next rising e =
-    let x = next_at held lid next rising e in
-    let P : Option Record → Type 0 = λ o. IsSome o in
-    subst P (sym (record_of_next held lid next x.0 x.1 x.2)) refl
+  next_first : (lid : ℕ) (y : Stocked) (ys : List Stocked) → IsRisingFrom y.lid ys → lid < y.lid → is_new d known y.rec ≡ true → IsNext lid (y ∷ ys) y
+  next_first lid y ys rising past new = record {
+    past = past;
+    rest = news_here lid y ys past new
+        ∙ ap (λ xs. y.rec ∷ filter (is_new d known) (records_in xs)) (all_above y.lid lid ys rising (omega arith) ∙ sym (all_above y.lid y.lid ys rising (omega arith)))
+        ∙ ap (λ rs. y.rec ∷ rs) (sym (low_news y.lid y ys (omega arith)));
+  }
 
--- fewer are above it
-pub fewer : (held : List Stocked) (lid next : ℕ) → IsRisingFrom 0 held → place_after held lid ≡ Some next → length (above next held) < length (above lid held)
-fewer held lid next rising e =
-    let x = next_at held lid next rising e in
-    let same : length (above x.0.lid held) ≡ length (above next held) = ap (λ n. length (above n held)) x.2 in
-    omega (arith, ap length x.1.rest, same)
+  next_behind : (lid : ℕ) (x y : Stocked) (ys : List Stocked) → news lid (y ∷ ys) ≡ news lid ys → news x.lid (y ∷ ys) ≡ news x.lid ys → IsNext lid ys x → IsNext lid (y ∷ ys) x
+  next_behind lid x y ys same still h = record { past = h.past; rest = same ∙ h.rest ∙ ap (λ rs. x.rec ∷ rs) (sym still) }
 
--- the records above a place, of which the first is at the next
-next_record : (held : List Stocked) (lid next : ℕ) (rec : Record) → IsRisingFrom 0 held → place_after held lid ≡ Some next → record_at held next ≡ Some rec
-    → records_in (above lid held) ≡ rec ∷ records_in (above next held)
-next_record held lid next rec rising e here =
-    let x = next_at held lid next rising e in
-    let is : x.0.rec ≡ rec = same_Some x.0.rec rec (sym (record_of_next held lid next x.0 x.1 x.2) ∙ here) in
-    ap records_in x.1.rest ∙ ap (λ r. r ∷ records_in (above x.0.lid held)) is ∙ ap (λ n. rec ∷ records_in (above n held)) x.2
+  pub next_is : (low lid : ℕ) (held : List Stocked) (x : Stocked) → IsRisingFrom low held → next_new d known lid held ≡ Some x → IsNext lid held x
+  next_is low lid [] x rising e = absurd (cc)
+  next_is low lid (y ∷ ys) x rising e = elim (cases_lt lid y.lid) [
+    | inr before ↦
+        let later = next_is y.lid lid ys x rising.1 (sym (low_later lid y ys before) ∙ e) in
+        next_behind lid x y ys (low_news lid y ys before) (low_news x.lid y ys (omega (arith, before, later.past))) later
+    | inl past ↦ elim (cases_Bool (is_new d known y.rec)) [
+      | inl new ↦ subst (IsNext lid (y ∷ ys)) (same_Some y x (sym (next_here lid y ys past new) ∙ e)) (next_first lid y ys rising.1 past new)
+      | inr old ↦ next_behind lid x y ys (old_news lid y ys old) (old_news x.lid y ys old) (next_is y.lid lid ys x rising.1 (sym (old_later lid y ys old) ∙ e))
+    ]
+  ]
 
--- the records so far, and those that are still to come
-pub record IsWalked (d known : ℕ) (held : List Stocked) (lid : ℕ) (records : List Record) : Type 0 where
-  pub room : length records ≤ 16
-  pub chosen : records ++ take (16 - length records) (filter (is_new d known) (records_in (above lid held))) ≡ first_new d known (records_in held)
+  pub none_next : (lid : ℕ) (held : List Stocked) → next_new d known lid held ≡ None → news lid held ≡ []
+  none_next lid [] e = refl
+  none_next lid (y ∷ ys) e = elim (cases_lt lid y.lid) [
+    | inr before ↦ low_news lid y ys before ∙ none_next lid ys (sym (low_later lid y ys before) ∙ e)
+    | inl past ↦ elim (cases_Bool (is_new d known y.rec)) [
+      | inl new ↦ absurd (let f : Some y ≡ None = sym (next_here lid y ys past new) ∙ e in cc)
+      | inr old ↦ old_news lid y ys old ∙ none_next lid ys (sym (old_later lid y ys old) ∙ e)
+    ]
+  ]
 
-pub begun : (d known : ℕ) (held : List Stocked) (records : List Record) → IsRisingFrom 0 held → records ≡ [] → IsWalked d known held 0 records
-begun d known held records rising none =
-    let P : List Record → Type 0 = λ rs. IsWalked d known held 0 rs in
-    subst P (sym none) (record { room = omega arith; chosen = ap (λ xs. first_new d known (records_in xs)) (all_above 0 0 held rising (omega arith)) })
+  -- fewer are new above the next
+  pub fewer : (held : List Stocked) (lid : ℕ) (x : Stocked) → IsRisingFrom 0 held → next_new d known lid held ≡ Some x → length (news x.lid held) < length (news lid held)
+  fewer held lid x rising e = omega (arith, ap length (next_is 0 lid held x rising e).rest)
 
-take_one : (n : ℕ) (records : List Record) (rec : Record) (rest : List Record) → n < 16
-    → records ++ take (16 - n) (rec ∷ rest) ≡ (records ++ rec ∷ []) ++ take (16 - (n + 1)) rest
-take_one n records rec rest room =
-    let e : 16 - n ≡ suc (16 - (n + 1)) = omega arith in
-    ap (λ k. records ++ take k (rec ∷ rest)) e ∙ sym (append_assoc records (rec ∷ []) (take (16 - (n + 1)) rest))
+  -- the records so far, and those that are still to come
+  pub record IsWalked (held : List Stocked) (lid : ℕ) (records : List Record) : Type 0 where
+    pub room : length records ≤ 16
+    pub chosen : records ++ take (16 - length records) (news lid held) ≡ first_new d known (records_in held)
 
--- the record at the next place is told
-pub told : (d known : ℕ) (held : List Stocked) (lid next : ℕ) (records : List Record) (rec copy : Record) (new : List Record) → IsRisingFrom 0 held
-    → place_after held lid ≡ Some next → record_at held next ≡ Some rec → copy ≡ rec → is_new d known rec ≡ true → length records < 16
-    → IsWalked d known held lid records → new ≡ records ++ copy ∷ [] → IsWalked d known held next new
-told d known held lid next records rec copy new rising e here is_copy yes_new room walked is =
-    let pushed : new ≡ records ++ rec ∷ [] = is ∙ ap (λ r. records ++ r ∷ []) is_copy in
-    let one : length (records ++ rec ∷ []) ≡ length records + 1 = length_push records rec in
-    let rest = filter (is_new d known) (records_in (above next held)) in
-    let P : List Record → Type 0 = λ rs. IsWalked d known held next rs in
-    subst P (sym pushed) (record {
-      room = omega (arith, one);
-      chosen = ap (λ n. (records ++ rec ∷ []) ++ take (16 - n) rest) one
-          ∙ sym (take_one (length records) records rec rest room)
-          ∙ ap (λ b. records ++ take (16 - length records) (cond b (rec ∷ rest) rest)) (sym yes_new)
-          ∙ ap (λ rs. records ++ take (16 - length records) (filter (is_new d known) rs)) (sym (next_record held lid next rec rising e here))
-          ∙ walked.chosen;
-    })
+  all_news : (held : List Stocked) → IsRisingFrom 0 held → news 0 held ≡ filter (is_new d known) (records_in held)
+  all_news held rising = ap (λ xs. filter (is_new d known) (records_in xs)) (all_above 0 0 held rising (omega arith))
 
--- it is passed over
-pub passed : (d known : ℕ) (held : List Stocked) (lid next : ℕ) (records : List Record) (rec : Record) → IsRisingFrom 0 held
-    → place_after held lid ≡ Some next → record_at held next ≡ Some rec → is_new d known rec ≡ false
-    → IsWalked d known held lid records → IsWalked d known held next records
-passed d known held lid next records rec rising e here old walked =
-    let rest = filter (is_new d known) (records_in (above next held)) in
-    record {
-      room = walked.room;
-      chosen = ap (λ b. records ++ take (16 - length records) (cond b (rec ∷ rest) rest)) (sym old)
-          ∙ ap (λ rs. records ++ take (16 - length records) (filter (is_new d known) rs)) (sym (next_record held lid next rec rising e here))
-          ∙ walked.chosen;
-    }
+  pub begun : (held : List Stocked) (records : List Record) → IsRisingFrom 0 held → records ≡ [] → IsWalked held 0 records
+  begun held records rising none = subst (IsWalked held 0) (sym none) (record { room = omega arith; chosen = ap (take 16) (all_news held rising) })
 
--- there are 16
-pub full : (d known : ℕ) (held : List Stocked) (lid : ℕ) (records : List Record) → 16 ≤ length records → IsWalked d known held lid records → records ≡ first_new d known (records_in held)
-full d known held lid records many walked =
-    let none : 16 - length records ≡ 0 = omega arith in
-    sym (append-nil records) ∙ ap (λ n. records ++ take n (filter (is_new d known) (records_in (above lid held)))) (sym none) ∙ walked.chosen
+  take_one : (n : ℕ) (records : List Record) (rec : Record) (rest : List Record) → n < 16
+      → records ++ take (16 - n) (rec ∷ rest) ≡ (records ++ rec ∷ []) ++ take (16 - (n + 1)) rest
+  take_one n records rec rest room =
+      let e : 16 - n ≡ suc (16 - (n + 1)) = omega arith in
+      ap (λ k. records ++ take k (rec ∷ rest)) e ∙ sym (append_assoc records (rec ∷ []) (take (16 - (n + 1)) rest))
 
--- there is no further place
-pub ended : (d known : ℕ) (held : List Stocked) (lid : ℕ) (records : List Record) → place_after held lid ≡ None → IsWalked d known held lid records → records ≡ first_new d known (records_in held)
-ended d known held lid records e walked =
-    let none = none_above lid held (of_none (first_above lid held) e) in
-    let nothing : take (16 - length records) (filter (is_new d known) (records_in [])) ≡ [] = nothing_of (16 - length records) in
-    sym (append-nil records) ∙ ap (λ rs. records ++ rs) (sym nothing)
-    ∙ ap (λ xs. records ++ take (16 - length records) (filter (is_new d known) (records_in xs))) (sym none) ∙ walked.chosen
-  where
-    nothing_of : (n : ℕ) → ◌≡◌ {A = List Record} (take n []) []
-    nothing_of zero = refl
-    nothing_of (suc n) = refl
+  -- the next new record is told
+  pub told : (held : List Stocked) (lid : ℕ) (x : Stocked) (records : List Record) (copy : Record) (new : List Record) → IsRisingFrom 0 held
+      → next_new d known lid held ≡ Some x → copy ≡ x.rec → length records < 16 → IsWalked held lid records → new ≡ records ++ copy ∷ [] → IsWalked held x.lid new
+  told held lid x records copy new rising e is_copy room walked is =
+      let pushed : new ≡ records ++ x.rec ∷ [] = is ∙ ap (λ r. records ++ r ∷ []) is_copy in
+      let one : length (records ++ x.rec ∷ []) ≡ length records + 1 = length_push records x.rec in
+      subst (IsWalked held x.lid) (sym pushed) (record {
+        room = omega (arith, one);
+        chosen = ap (λ n. (records ++ x.rec ∷ []) ++ take (16 - n) (news x.lid held)) one
+            ∙ sym (take_one (length records) records x.rec (news x.lid held) room)
+            ∙ ap (λ rs. records ++ take (16 - length records) rs) (sym (next_is 0 lid held x rising e).rest)
+            ∙ walked.chosen;
+      })
+
+  -- there are 16
+  pub full : (held : List Stocked) (lid : ℕ) (records : List Record) → 16 ≤ length records → IsWalked held lid records → records ≡ first_new d known (records_in held)
+  full held lid records many walked =
+      let none : 16 - length records ≡ 0 = omega arith in
+      sym (append-nil records) ∙ ap (λ n. records ++ take n (news lid held)) (sym none) ∙ walked.chosen
+
+  nothing_of : (n : ℕ) → ◌≡◌ {A = List Record} (take n []) []
+  nothing_of zero = refl
+  nothing_of (suc n) = refl
+
+  -- there is no further one
+  pub ended : (held : List Stocked) (lid : ℕ) (records : List Record) → next_new d known lid held ≡ None → IsWalked held lid records → records ≡ first_new d known (records_in held)
+  ended held lid records e walked =
+      sym (append-nil records) ∙ ap (λ rs. records ++ rs) (sym (nothing_of (16 - length records)))
+      ∙ ap (λ rs. records ++ take (16 - length records) rs) (sym (none_next lid held e)) ∙ walked.chosen
+
+  -- whether any is told
+  pub some_told : (held : List Stocked) (x : Stocked) → IsRisingFrom 0 held → next_new d known 0 held ≡ Some x → first_new d known (records_in held) ≢ []
+  some_told held x rising e none =
+      let first : x.rec ∷ take 15 (news x.lid held) ≡ first_new d known (records_in held) = ap (take 16) (sym (next_is 0 0 held x rising e).rest ∙ all_news held rising) in
+      let bad = first ∙ none in
+      absurd (cc)
+
+  pub none_told : (held : List Stocked) → IsRisingFrom 0 held → next_new d known 0 held ≡ None → first_new d known (records_in held) ≡ []
+  none_told held rising e = ap (take 16) (sym (all_news held rising) ∙ none_next 0 held e)

@@ -10,15 +10,15 @@ use std::alloc::Global;
 // How many records one message has at most.
 const MOST: usize = 16;
 
-// Whether the record is of this host, and above the number that is known.
-fn is_news(rec: &Record, host: DcId, known: Toid) -> bool
+/// Whether the record is of this host, and above the number that is known.
+pub fn is_news(rec: &Record, host: DcId, known: Toid) -> bool
     ensures { result ≡ is_new host known rec.now }
 {
     rec.host == host && known < rec.toid
 }
 
 /// The first 16 records of the stock that are of this host and above the number that is known.
-pub fn first_news<T: Stock>(
+pub(crate) fn first_news<T: Stock>(
     alloc: Global,
     host: DcId,
     known: Toid,
@@ -28,14 +28,11 @@ pub fn first_news<T: Stock>(
 {
     let mut records = Seq::new(alloc);
     let mut lid = 0;
-    'places: while records.len() < MOST {
-        let Some(next) = stock.after(lid) else {
+    'news: while records.len() < MOST {
+        let Some((next, rec)) = stock.next_new(host, known, lid) else {
             break;
         };
-        let rec = stock.rec(next);
-        if is_news(rec, host, known) {
-            records.push(rec.copy()?)?;
-        }
+        records.push(rec.copy()?)?;
         lid = next;
     }
     Ok(records)

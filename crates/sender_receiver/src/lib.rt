@@ -12,7 +12,8 @@ mod receiver;
 mod sender;
 mod stock;
 
+pub use choosing::is_news;
 pub use laws::the_next_place_is_the_least;
 pub use receiver::receive;
-pub use sender::Sender;
+pub use sender::{Sender, Told};
 pub use stock::Stock;

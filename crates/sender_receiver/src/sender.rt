@@ -13,6 +13,13 @@ use record_codec::{Message, encode_message, no_message_begins_another};
 use std::alloc::Global;
 use std::marker::Model;
 
+/// A message, and the bytes that spell it.
+#[derive(Drop)]
+pub struct Told {
+    pub message: Message,
+    pub bytes: Vec<u8>,
+}
+
 /// A member of a datacentre that tells the other datacentres of its records. Contracts see whose it is
 /// and its number.
 #[derive(Drop)]
@@ -63,9 +70,25 @@ impl Sender {
         ensures spelled { IfOk result (λ bytes. SpellsMessage (length aware.now.table) bytes.items (message_to self.old.dc to aware.now.table (records_in (T.held stock.now)))) }
         ensures decodes { IfOk result (λ bytes. (message : MessageValue) → SpellsMessage (length aware.now.table) bytes.items message → message ≡ message_to self.old.dc to aware.now.table (records_in (T.held stock.now))) }
     {
+        let Told { bytes, .. } = self.tell(to, aware, stock)?;
+        Ok(bytes)
+    }
+
+    /// The same message, and its bytes as `build` makes them.
+    pub fn tell<T: Stock>(&mut self, to: DcId, aware: &Aware, stock: &T) -> Result<Told, NoMemory>
+        requires from { self.old.dc < length aware.now.table }
+        requires to { to < length aware.now.table }
+        requires entries { (k h : ℕ) → entry_of aware.now.table k h < 2 ^ 48 }
+        requires stock { AreTellable (length aware.now.table) self.old.dc (records_in (T.held stock.now)) }
+        ensures same { self.new ≡ self.old }
+        ensures message { IfOk result (λ told. told.message ≡ message_to self.old.dc to aware.now.table (records_in (T.held stock.now))) }
+        ensures spelled { IfOk result (λ told. SpellsMessage (length aware.now.table) told.bytes.items (message_to self.old.dc to aware.now.table (records_in (T.held stock.now)))) }
+        ensures decodes { IfOk result (λ told. (message : MessageValue) → SpellsMessage (length aware.now.table) told.bytes.items message → message ≡ message_to self.old.dc to aware.now.table (records_in (T.held stock.now))) }
+    {
         let message = self.message(to, aware, stock)?;
         no_message_begins_another();
-        encode_message(self.alloc, &message)
+        let bytes = encode_message(self.alloc, &message)?;
+        Ok(Told { message, bytes })
     }
 
     // The message that is to be encoded.

@@ -1,8 +1,11 @@
 ghost use Rattle.std.specs.Prelude.{◌≡◌, List, IsSome, Some};
+ghost use Rattle.std.specs.Option.{option_map};
 ghost use Rattle.sender_receiver.specs.Stocks.{Stocked, IsRisingFrom, place_after, record_at};
+ghost use Rattle.sender_receiver.specs.Choosing.{is_new_above, next_new};
 
+use crate::choosing::is_news;
 use causal_deps::Record;
-use cz_base::{Lid, Seq};
+use cz_base::{DcId, Lid, Seq, Toid};
 
 /// The records that a sender may tell, by rising place.
 pub trait Stock {
@@ -17,6 +20,11 @@ pub trait Stock {
     fn rec(&self, lid: Lid) -> &Record
         requires { IsSome (record_at (held self.now) lid) }
         ensures { record_at (held self.now) lid ≡ Some result.now };
+
+    /// The first record above the place `lid` that is of this host and above the number that is known,
+    /// and its place; or `None` exactly where there is none.
+    fn next_new(&self, host: DcId, known: Toid, lid: Lid) -> Option<(Lid, &Record)>
+        ensures { option_map (λ found. record { lid = found.0; rec = found.1.now }) result ≡ next_new host known lid (held self.now) };
 
     /// Places rise, and count from 1.
     ghost rising: { (stock : Self) → IsRisingFrom 0 (held stock) };
@@ -45,4 +53,21 @@ impl Stock for Seq<Record> {
             None => unreachable!(),
         }
     }
+
+    fn next_new(&self, host: DcId, known: Toid, lid: Lid) -> Option<(Lid, &Record)> {
+        for (at, rec) in self.as_slice().iter().enumerate() {
+            let place = at as u64 + 1;
+            if is_new_above(lid, place, rec, host, known) {
+                return Some((place, rec));
+            }
+        }
+        None
+    }
+}
+
+// Whether the record at a place above `lid` is of this host, and above the number that is known.
+fn is_new_above(lid: Lid, place: Lid, rec: &Record, host: DcId, known: Toid) -> bool
+    ensures { result ≡ is_new_above host known lid (record { lid = place; rec = rec.now }) }
+{
+    lid < place && is_news(rec, host, known)
 }

@@ -1,15 +1,15 @@
 -- What a maintainer posts to an indexer.
-use Rattle.std.proofs.Common.{◌≡◌, ◌⊎◌, ℕ, zero, suc, ◌+◌, ◌-◌, ◌<◌, ◌≤◌, max, Bool, true, false, cond, leb, ltb, ◌&&◌, List, [], ◌∷◌, length, map, take, drop, get_or, set, refl, ap, sym, ◌∙◌, subst, inl, inr, arith}
+use Rattle.std.proofs.Common.{◌≡◌, ℕ, zero, suc, ◌-◌, ◌<◌, ◌≤◌, max, Bool, true, false, cond, leb, ltb, ◌&&◌, List, [], ◌∷◌, length, map, take, drop, get_or, set, refl, ap, sym, ◌∙◌, subst, inl, inr, arith}
 use Rattle.std.specs.List.{All, AllPairs, Contains, filter, list_any}
 use Rattle.std.proofs.lemmas.List.{set-get_or}
 use Rattle.std.proofs.lemmas.List.Elements.{All-nil, All-cons, All-head, All-tail}
 use Rattle.std.proofs.lemmas.List.Kept.{AllPairs-cons, AllPairs-filter}
-use Rattle.std.proofs.lemmas.Bool.{cases_lt, cond-true, cond-false, cond_both, and_parts, and_from, le-leb, lt-leb, lt-ltb, le-ltb, leb-true, ltb-true}
+use Rattle.std.proofs.lemmas.Bool.{cond-true, cond_both, and_parts, and_from, le-leb, lt-ltb, leb-true, ltb-true}
 use Rattle.causal_deps.specs.declared.record.Record.{Record}
 use Rattle.flstore_rounds.specs.Epochs.{EpochList, longer, owner}
-use Rattle.flstore_rounds.specs.Heads.{Pair, mark_at, with_own}
+use Rattle.flstore_rounds.specs.Heads.{mark_at}
 use Rattle.maintainer.specs.declared.slot.Slot.{Slot}
-use Rattle.maintainer.specs.Maintainers.{AreRising, MaintainerState, mark_of, times, times_in}
+use Rattle.maintainer.specs.Maintainers.{AreRising, MaintainerState, mark_of, times_in}
 use Rattle.maintainer.proofs.CountLemmas.{All-tested, entry_there, none_counted}
 use Rattle.tag_indexer.specs.declared.post.Post.{Post}
 use Rattle.tag_indexer.specs.Indexers.{AreOwnRows, IndexerState, posted}

@@ -1,14 +1,13 @@
 -- Where stages stand for a log, a maintainer may post; and what posting leaves is the stage world's turn.
-use Rattle.std.proofs.Common.{◌≡◌, ◌≢◌, ℕ, ◌<◌, ◌≤◌, max, Bool, true, false, cond, leb, ltb, ◌&&◌, nat_lt, List, [], length, map, set, get_or, refl, ap, ap₂, sym, ◌∙◌, subst, inl, inr, arith}
+use Rattle.std.proofs.Common.{◌≡◌, ◌≢◌, ℕ, ◌<◌, ◌≤◌, max, cond, leb, ltb, ◌&&◌, nat_lt, List, length, map, set, get_or, ap, sym, ◌∙◌, subst, inl, inr, arith}
 use Rattle.std.specs.List.{filter, list_any}
-use Rattle.std.proofs.lemmas.Bool.{cases_lt, lt-ltb, le-ltb, cond_both, cond-true, cond-false}
+use Rattle.std.proofs.lemmas.Bool.{cases_lt, lt-ltb, le-ltb}
 use Rattle.std.proofs.lemmas.List.{get_or-map, get_or-set_same, length-set, map-set, set-get_or}
-use Rattle.std.proofs.lemmas.List.Elements.{All-get_or}
 use Rattle.causal_deps.specs.declared.record.Record.{Record}
 use Rattle.abstract_log.specs.declared.world.World.{World}
-use Rattle.flstore_rounds.specs.Epochs.{longer, owner}
-use Rattle.flstore_rounds.specs.Heads.{Pair, mark_at}
-use Rattle.maintainer.specs.Maintainers.{MaintainerState, mark_of, plain}
+use Rattle.flstore_rounds.specs.Epochs.{longer}
+use Rattle.flstore_rounds.specs.Heads.{mark_at}
+use Rattle.maintainer.specs.Maintainers.{MaintainerState, plain}
 use Rattle.maintainer.proofs.StateLemmas.{plain_mark}
 use Rattle.maintainer.specs.declared.slot.Slot.{Slot}
 use Rattle.tag_indexer.specs.declared.post.Post.{Post}
@@ -16,7 +15,7 @@ use Rattle.tag_indexer.specs.Indexers.{IndexerState, posted as rows_posted}
 use Rattle.stage_world.specs.Stages.{Datacentre, maintainer_at, indexer_at, no_indexer, no_epochs}
 use Rattle.stage_world.specs.StandsFor.{StandsAt}
 use Rattle.stage_world.specs.MoreTurns.{posted, posted_to, row_made}
-use Rattle.stage_world.specs.Idle.{TellsApart, TellsChange, apart_from_epochs, indexer_apart}
+use Rattle.stage_world.specs.Idle.{TellsChange, apart_from_epochs, indexer_apart}
 use Rattle.stage_world.proofs.PostTurn.{known, begun, entries_own, filled_below}
 use Rattle.stage_turns.specs.Posting.{MayPost, is_between, post_mark}
 use Rattle.stage_turns.proofs.PostingLemmas.{none_past, posted_is}

@@ -1,11 +1,11 @@
 -- The turn of a session through the shelf of the stages is the turn of the stage world.
-use Rattle.std.proofs.Common.{◌≡◌, ◌≢◌, ◌||◌, not, ℕ, zero, suc, ◌+◌, ◌-◌, ◌%◌, ◌<◌, ◌≤◌, Bool, true, false, cond, ltb, eqb, nat_lt, List, [], ◌∷◌, ◌++◌, Option, Some, None, length, map, take, get_or, set, sum, refl, ap, ap₂, sym, ◌∙◌, subst, inl, inr, arith, slice_get}
-use Rattle.std.specs.List.{All, AllPairs, find, flat_map, list_any, sum_by}
+use Rattle.std.proofs.Common.{◌≡◌, ◌||◌, not, ℕ, zero, suc, ◌+◌, ◌%◌, ◌<◌, ◌≤◌, Bool, true, false, cond, ltb, eqb, List, [], ◌∷◌, ◌++◌, Option, Some, None, length, map, take, get_or, set, sum, refl, ap, ap₂, sym, ◌∙◌, subst, inl, inr, arith, slice_get}
+use Rattle.std.specs.List.{All, find, list_any}
 use Rattle.std.specs.Option.{option_and_then, option_map_or, unwrap_or}
 use Rattle.std.proofs.Math.Nat.{mod-lt}
-use Rattle.std.proofs.lemmas.Bool.{cases_eq, cases_lt, cond_both, cond-true, cond-false, eq-eqb, eqb-true, eqb-false, le-ltb, lt-ltb, ltb-false, ne_eqb, false≢true}
+use Rattle.std.proofs.lemmas.Bool.{cases_eq, cases_lt, cond_both, eq-eqb, eqb-true, le-ltb, lt-ltb, ltb-false, ne_eqb, false≢true}
 use Rattle.std.proofs.lemmas.List.{get_or-map, length-map, length_push, map-append, set-get_or, take_all, take_more}
-use Rattle.std.proofs.lemmas.List.Elements.{All-get_or, All-head, All-tail}
+use Rattle.std.proofs.lemmas.List.Elements.{All-get_or}
 use Rattle.std.proofs.lemmas.List.Sums.{sum_by-cons, sum_by-append}
 use Rattle.std.proofs.lemmas.Option.{same_Some, slice_get-get_or}
 use Rattle.causal_deps.specs.declared.record.Record.{Record}
@@ -14,16 +14,14 @@ use Rattle.abstract_log.specs.declared.command.Command.TheVariants.{Append, Put,
 use Rattle.abstract_log.specs.declared.answer.Answer.{Answer}
 use Rattle.abstract_log.specs.declared.answer.Answer.TheVariants.{Items, Read, Last}
 use Rattle.abstract_log.specs.declared.answer.Found.{Found}
-use Rattle.abstract_log.specs.declared.answer.ReadAnswer.{ReadAnswer}
 use Rattle.abstract_log.specs.declared.answer.ReadAnswer.TheVariants.{Beyond, Gone}
-use Rattle.abstract_log.specs.declared.event.Event.{Event}
 use Rattle.abstract_log.specs.declared.event.Event.TheVariants.{Submit, Reply}
 use Rattle.abstract_log.specs.declared.script.Outcome.{Outcome}
 use Rattle.abstract_log.specs.declared.script.Outcome.TheVariants.{Absent, Behind, Below, Finished, Key, Replied, Submitted, Waiting}
 use Rattle.abstract_log.specs.declared.world.World.{World}
 use Rattle.abstract_log.specs.Worlds.{log_of, gone_of}
-use Rattle.abstract_log.specs.Commands.{draft_of, is_write}
-use Rattle.abstract_log.specs.Answers.{found_at, last_of, places_with, read_at, read_in, shown_record}
+use Rattle.abstract_log.specs.Commands.{is_write}
+use Rattle.abstract_log.specs.Answers.{found_at, last_of, read_in, shown_record}
 use Rattle.abstract_log.specs.Fits.{FitsCommand}
 use Rattle.causal_deps.specs.Logs.{record_at}
 use Rattle.flstore_rounds.specs.Heads.{Pair, IsTruePair, blank, head}
@@ -40,9 +38,9 @@ use Rattle.hyksos.specs.Turns.{Taken, behind, found_at_pin, key_turn as key_take
 use Rattle.hyksos.specs.Sessions.{SessionState as Session, begun, next_command, next_index, reading, replied, writes}
 use Rattle.stage_world.specs.Stages.{Datacentre, IsFilledIn, indexer_at, no_epochs, no_indexer, vector_at}
 use Rattle.stage_world.specs.Turns.{Turned, at_session, quiet, submitted}
-use Rattle.stage_world.specs.MoreTurns.{home_of, record_kept}
-use Rattle.stage_world.specs.ClientTurns.{and_then, begin_turn, behind_turn, client_of, found_more, found_turn, key_turn, last_turn, look_turn, looked_up, open_turn, reading_at, reply_with, shown_at, top_for, waiting_turn}
-use Rattle.stage_world.specs.StandsFor.{IsAsFar, IsPinned, StandsAt, gone_times, is_look, keys_of, numbers_of}
+use Rattle.stage_world.specs.MoreTurns.{home_of}
+use Rattle.stage_world.specs.ClientTurns.{and_then, begin_turn, behind_turn, client_of, found_more, found_turn, key_turn, last_turn, look_turn, looked_up, open_turn, reading_at, reply_with, shown_at, waiting_turn}
+use Rattle.stage_world.specs.StandsFor.{IsAsFar, IsPinned, StandsAt, gone_times, is_look, keys_of}
 use Rattle.stage_world.proofs.FilledLemmas.{filled_within}
 use Rattle.stage_world.proofs.LookUps.{looked_up_is, tagged_home}
 use Rattle.stage_world.proofs.ReplyTurn.{no_draft, shown_is}

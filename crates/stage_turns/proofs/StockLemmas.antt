@@ -1,16 +1,16 @@
 -- What a sender reads of its maintainers: the entries by rising position.
-use Rattle.std.proofs.Common.{◌≡◌, ℕ, suc, ◌+◌, ◌-◌, ◌%◌, ◌<◌, ◌≤◌, cond, ltb, eqb, List, [], ◌∷◌, ◌++◌, length, get_or, take, find, Option, Some, None, IsSome, refl, ap, sym, ◌∙◌, subst, inl, inr, arith}
+use Rattle.std.proofs.Common.{◌≡◌, ℕ, Bool, true, false, suc, ◌+◌, ◌-◌, ◌%◌, ◌<◌, ◌≤◌, cond, ltb, eqb, List, [], ◌∷◌, ◌++◌, length, get_or, take, find, Option, Some, None, IsSome, refl, ap, sym, ◌∙◌, subst, inl, inr, arith}
 use Rattle.std.specs.List.{All, Contains, flat_map, fold, sum_by}
 use Rattle.std.specs.Option.{option_map}
 use Rattle.std.proofs.Math.Seq.{take-suc, take-length}
-use Rattle.std.proofs.lemmas.Bool.{cases_lt, cases_eq, cond-true, cond-false, cond_both, eq-eqb, ne_eqb, lt-ltb, le-ltb}
+use Rattle.std.proofs.lemmas.Bool.{both_ways, cases_Bool, cases_lt, cases_eq, cond-true, cond-false, cond_both, eq-eqb, ne_eqb, lt-ltb, le-ltb}
 use Rattle.std.proofs.lemmas.Grind.{flat_map-append}
 use Rattle.std.proofs.lemmas.List.{append-nil}
 use Rattle.std.proofs.lemmas.List.Elements.{All-nil, All-cons, All-head, All-tail, All-append, Contains-append_left, Contains-append_right}
 use Rattle.std.proofs.lemmas.List.Sums.{sum_by-cons, sum_by-append}
 use Rattle.causal_deps.specs.declared.record.Record.{Record}
 use Rattle.maintainer.specs.declared.slot.Slot.{Slot}
-use Rattle.maintainer.specs.Maintainers.{AreRising, MaintainerState, entry_after, times_in}
+use Rattle.maintainer.specs.Maintainers.{AreRising, MaintainerState, times_in}
 use Rattle.maintainer.proofs.CountLemmas.{rising-tail}
 use Rattle.sender_receiver.specs.Stocks.{Stocked, IsRisingFrom, record_at}
 use Rattle.stage_world.specs.Stages.{filled}
@@ -119,66 +119,69 @@ stock_rises ms k n apart =
     rising-sorted [] (read_by k n ms) tt (All-read_by (λ (e : Slot Record). 1 ≤ e.lid) k n ms apart.first)
     (λ p. omega (arith, times-read_by p k n ms, apart.once p)) (All-nil (λ (x : Stocked). times_in x.lid (read_by k n ms) ≡ 0))
 
--- the entry at the least position above p
+-- the entry at the least position among those that pass a test
+module _ (test : Stocked → Bool) where
+  pub record HasNearest (es : List (Slot Record)) (e : Slot Record) : Type 0 where
+    pub passes : test (stocked e) ≡ true
+    pub there : Contains es e
+    pub least : All (λ (x : Slot Record). test (stocked x) ≡ true → e.lid ≤ x.lid) es
 
-pub record HasNearest (es : List (Slot Record)) (p : ℕ) (e : Slot Record) : Type 0 where
-  pub past : p < e.lid
-  pub there : Contains es e
-  pub least : All (λ (x : Slot Record). p < x.lid → e.lid ≤ x.lid) es
+  abbrev pub IsNearest : List (Slot Record) → Option (Slot Record) → Type 0
+  IsNearest es None = All (λ (e : Slot Record). test (stocked e) ≡ false) es
+  IsNearest es (Some e) = HasNearest es e
 
-abbrev pub IsNearest : List (Slot Record) → ℕ → Option (Slot Record) → Type 0
-IsNearest es p None = All (λ (e : Slot Record). e.lid ≤ p) es
-IsNearest es p (Some e) = HasNearest es p e
+  -- the first of a list that passes
+  abbrev pub first_of : List (Slot Record) → Option (Slot Record)
+  first_of es = find (λ e. test (stocked e)) es
 
-nearest_behind : (x : Slot Record) (xs : List (Slot Record)) (p : ℕ) (o : Option (Slot Record)) → x.lid ≤ p → IsNearest xs p o → IsNearest (x ∷ xs) p o
-nearest_behind x xs p None low h = All-cons (λ (e : Slot Record). e.lid ≤ p) x xs low h
-nearest_behind x xs p (Some e) low h = record {
-  past = h.past;
-  there = Contains-tail x e xs h.there;
-  least = All-cons (λ (y : Slot Record). p < y.lid → e.lid ≤ y.lid) x xs (λ past. absurd (omega (arith, low, past))) h.least;
-}
+  nearest_behind : (x : Slot Record) (xs : List (Slot Record)) (o : Option (Slot Record)) → test (stocked x) ≡ false → IsNearest xs o → IsNearest (x ∷ xs) o
+  nearest_behind x xs None fails h = All-cons (λ (e : Slot Record). test (stocked e) ≡ false) x xs fails h
+  nearest_behind x xs (Some e) fails h = record {
+    passes = h.passes;
+    there = Contains-tail x e xs h.there;
+    least = All-cons (λ (y : Slot Record). test (stocked y) ≡ true → e.lid ≤ y.lid) x xs (λ passes. absurd (both_ways (test (stocked x)) fails passes)) h.least;
+  }
 
-after_is_nearest : (es : List (Slot Record)) (p : ℕ) → AreRising es → IsNearest es p (entry_after p es)
-after_is_nearest [] p rising = All-nil (λ (e : Slot Record). e.lid ≤ p)
-after_is_nearest (x ∷ xs) p rising = elim (cases_lt p x.lid) [
-  | inl past ↦ subst (IsNearest (x ∷ xs) p) (sym (cond-true (ltb p x.lid) (Some x) (entry_after p xs) (lt-ltb p x.lid past))) (record {
-    past = past;
-    there = Contains-head x xs;
-    least = All-cons (λ (y : Slot Record). p < y.lid → x.lid ≤ y.lid) x xs (λ _. omega arith) (λ k y within _. omega (arith, rising.below 0 (suc k) y (omega arith) (omega arith)));
-  })
-  | inr low ↦ subst (IsNearest (x ∷ xs) p) (sym (cond-false (ltb p x.lid) (Some x) (entry_after p xs) (le-ltb p x.lid low)))
-      (nearest_behind x xs p (entry_after p xs) low (after_is_nearest xs p (rising-tail x xs rising)))
-]
+  first_is_nearest : (es : List (Slot Record)) → AreRising es → IsNearest es (first_of es)
+  first_is_nearest [] rising = All-nil (λ (e : Slot Record). test (stocked e) ≡ false)
+  first_is_nearest (x ∷ xs) rising = elim (cases_Bool (test (stocked x))) [
+    | inl passes ↦ subst (IsNearest (x ∷ xs)) (sym (cond-true (test (stocked x)) (Some x) (first_of xs) passes)) (record {
+      passes = passes;
+      there = Contains-head x xs;
+      least = All-cons (λ (y : Slot Record). test (stocked y) ≡ true → x.lid ≤ y.lid) x xs (λ _. omega arith) (λ k y within _. omega (arith, rising.below 0 (suc k) y (omega arith) (omega arith)));
+    })
+    | inr fails ↦ subst (IsNearest (x ∷ xs)) (sym (cond-false (test (stocked x)) (Some x) (first_of xs) fails)) (nearest_behind x xs (first_of xs) fails (first_is_nearest xs (rising-tail x xs rising)))
+  ]
 
--- the nearer of two is the nearest of both
-nearest_left : (xs ys : List (Slot Record)) (p : ℕ) (e : Slot Record) → HasNearest xs p e → All (λ (x : Slot Record). p < x.lid → e.lid ≤ x.lid) ys → HasNearest (xs ++ ys) p e
-nearest_left xs ys p e h rest = record {
-  past = h.past;
-  there = Contains-append_left xs ys e h.there;
-  least = All-append (λ (x : Slot Record). p < x.lid → e.lid ≤ x.lid) xs ys h.least rest;
-}
+  -- the nearer of two is the nearest of both
+  nearest_left : (xs ys : List (Slot Record)) (e : Slot Record) → HasNearest xs e → All (λ (x : Slot Record). test (stocked x) ≡ true → e.lid ≤ x.lid) ys → HasNearest (xs ++ ys) e
+  nearest_left xs ys e h rest = record {
+    passes = h.passes;
+    there = Contains-append_left xs ys e h.there;
+    least = All-append (λ (x : Slot Record). test (stocked x) ≡ true → e.lid ≤ x.lid) xs ys h.least rest;
+  }
 
-nearest_right : (xs ys : List (Slot Record)) (p : ℕ) (e : Slot Record) → HasNearest ys p e → All (λ (x : Slot Record). p < x.lid → e.lid ≤ x.lid) xs → HasNearest (xs ++ ys) p e
-nearest_right xs ys p e h front = record {
-  past = h.past;
-  there = Contains-append_right xs ys e h.there;
-  least = All-append (λ (x : Slot Record). p < x.lid → e.lid ≤ x.lid) xs ys front h.least;
-}
+  nearest_right : (xs ys : List (Slot Record)) (e : Slot Record) → HasNearest ys e → All (λ (x : Slot Record). test (stocked x) ≡ true → e.lid ≤ x.lid) xs → HasNearest (xs ++ ys) e
+  nearest_right xs ys e h front = record {
+    passes = h.passes;
+    there = Contains-append_right xs ys e h.there;
+    least = All-append (λ (x : Slot Record). test (stocked x) ≡ true → e.lid ≤ x.lid) xs ys front h.least;
+  }
 
-none_past : (es : List (Slot Record)) (p : ℕ) (e : Slot Record) → All (λ (x : Slot Record). x.lid ≤ p) es → All (λ (x : Slot Record). p < x.lid → e.lid ≤ x.lid) es
-none_past es p e low = λ k x within past. absurd (omega (arith, low k x within, past))
+  none_pass : (es : List (Slot Record)) (e : Slot Record) → All (λ (x : Slot Record). test (stocked x) ≡ false) es → All (λ (x : Slot Record). test (stocked x) ≡ true → e.lid ≤ x.lid) es
+  none_pass es e fail = λ k x within passes. absurd (both_ways (test (stocked (get_or es k x))) (fail k x within) passes)
 
-farther : (es : List (Slot Record)) (p : ℕ) (a b : Slot Record) → a.lid ≤ b.lid → HasNearest es p b → All (λ (x : Slot Record). p < x.lid → a.lid ≤ x.lid) es
-farther es p a b le h = λ k x within past. omega (arith, le, h.least k x within past)
+  farther : (es : List (Slot Record)) (a b : Slot Record) → a.lid ≤ b.lid → HasNearest es b → All (λ (x : Slot Record). test (stocked x) ≡ true → a.lid ≤ x.lid) es
+  farther es a b le h = λ k x within passes. omega (arith, le, h.least k x within passes)
 
-nearest_of_both : (xs ys : List (Slot Record)) (p : ℕ) (a b : Option (Slot Record)) → IsNearest xs p a → IsNearest ys p b → IsNearest (xs ++ ys) p (nearer_of a b)
-nearest_of_both xs ys p None None h g = All-append (λ (e : Slot Record). e.lid ≤ p) xs ys h g
-nearest_of_both xs ys p None (Some b) h g = nearest_right xs ys p b g (none_past xs p b h)
-nearest_of_both xs ys p (Some a) None h g = nearest_left xs ys p a h (none_past ys p a g)
-nearest_of_both xs ys p (Some a) (Some b) h g = elim (cases_lt b.lid a.lid) [
-  | inl nearer ↦ subst (IsNearest (xs ++ ys) p) (sym (cond-true (ltb b.lid a.lid) (Some b) (Some a) (lt-ltb b.lid a.lid nearer))) (nearest_right xs ys p b g (farther xs p b a (omega arith) h))
-  | inr not ↦ subst (IsNearest (xs ++ ys) p) (sym (cond-false (ltb b.lid a.lid) (Some b) (Some a) (le-ltb b.lid a.lid not))) (nearest_left xs ys p a h (farther ys p a b not g))
-]
+  nearest_of_both : (xs ys : List (Slot Record)) (a b : Option (Slot Record)) → IsNearest xs a → IsNearest ys b → IsNearest (xs ++ ys) (nearer_of a b)
+  nearest_of_both xs ys None None h g = All-append (λ (e : Slot Record). test (stocked e) ≡ false) xs ys h g
+  nearest_of_both xs ys None (Some b) h g = nearest_right xs ys b g (none_pass xs b h)
+  nearest_of_both xs ys (Some a) None h g = nearest_left xs ys a h (none_pass ys a g)
+  nearest_of_both xs ys (Some a) (Some b) h g = elim (cases_lt b.lid a.lid) [
+    | inl nearer ↦ subst (IsNearest (xs ++ ys)) (sym (cond-true (ltb b.lid a.lid) (Some b) (Some a) (lt-ltb b.lid a.lid nearer))) (nearest_right xs ys b g (farther xs b a (omega arith) h))
+    | inr not ↦ subst (IsNearest (xs ++ ys)) (sym (cond-false (ltb b.lid a.lid) (Some b) (Some a) (le-ltb b.lid a.lid not))) (nearest_left xs ys a h (farther ys a b not g))
+  ]
 
 -- maintainer after maintainer
 
@@ -193,24 +196,7 @@ read_by_more k n i ms m within is =
     ∙ flat_map-append (λ (x : MaintainerState Record). cond (eqb (x.number % n) k) x.entries []) (take i ms) (m ∷ [])
     ∙ ap (λ es. read_by k n (take i ms) ++ es) one
 
-pub nearest_with : (k n i p : ℕ) (ms : List (MaintainerState Record)) (m : MaintainerState Record) (a new b : Option (Slot Record)) → i < length ms → m ≡ get_or ms i m → m.number % n ≡ k
-    → AreRising m.entries → b ≡ entry_after p m.entries → new ≡ nearer_of a b → IsNearest (read_by k n (take i ms)) p a → IsNearest (read_by k n (take (i + 1) ms)) p new
-nearest_with k n i p ms m a new b within is chosen rising after nearer h =
-    let whole = read_by_more k n i ms m within is ∙ ap (λ es. read_by k n (take i ms) ++ es) (cond-true (eqb (m.number % n) k) m.entries [] (eq-eqb (m.number % n) k chosen)) in
-    let both : IsNearest (read_by k n (take i ms) ++ m.entries) p (nearer_of a (entry_after p m.entries)) = nearest_of_both (read_by k n (take i ms)) m.entries p a (entry_after p m.entries) h (after_is_nearest m.entries p rising) in
-    let P : List (Slot Record) → Type 0 = λ es. IsNearest es p new in
-    subst P (sym whole) (subst (IsNearest (read_by k n (take i ms) ++ m.entries) p) (ap (nearer_of a) (sym after) ∙ sym nearer) both)
-
-pub nearest_without : (k n i p : ℕ) (ms : List (MaintainerState Record)) (m : MaintainerState Record) (a new : Option (Slot Record)) → i < length ms → m ≡ get_or ms i m → (m.number % n ≡ k → ⊥)
-    → new ≡ a → IsNearest (read_by k n (take i ms)) p a → IsNearest (read_by k n (take (i + 1) ms)) p new
-nearest_without k n i p ms m a new within is other same h =
-    let whole = read_by_more k n i ms m within is ∙ ap (λ es. read_by k n (take i ms) ++ es) (cond-false (eqb (m.number % n) k) m.entries [] (ne_eqb (m.number % n) k other)) ∙ append-nil (read_by k n (take i ms)) in
-    subst (λ es. IsNearest es p new) (sym whole) (subst (IsNearest (read_by k n (take i ms)) p) (sym same) h)
-
-pub none_read : (k n p : ℕ) (ms : List (MaintainerState Record)) → IsNearest (read_by k n (take 0 ms)) p None
-none_read k n p ms = All-nil (λ (e : Slot Record). e.lid ≤ p)
-
--- in a list that rises, the nearest is the first that is above
+-- in a list that rises, the nearest is the first that passes
 
 above_low : (low : ℕ) (held : List Stocked) (x : Stocked) → IsRisingFrom low held → Contains held x → low < x.lid
 above_low low [] x rising has = absurd (omega (arith, has.1))
@@ -219,33 +205,48 @@ above_low low (y ∷ ys) x rising has = elim (Contains-cases y x ys has) [
   | inr later ↦ omega (arith, rising.0, above_low y.lid ys x rising.1 later)
 ]
 
-first_is : (held : List Stocked) (low p : ℕ) (x : Stocked) → IsRisingFrom low held → p < x.lid → Contains held x → All (λ (y : Stocked). p < y.lid → x.lid ≤ y.lid) held
-    → find (λ (y : Stocked). ltb p y.lid) held ≡ Some x
-first_is [] low p x rising past has least = absurd (omega (arith, has.1))
-first_is (y ∷ ys) low p x rising past has least = elim (Contains-cases y x ys has) [
-  | inl same ↦
-      let here : p < y.lid = omega (arith, past, ap (λ (s : Stocked). s.lid) same) in
-      cond-true (ltb p y.lid) (Some y) (find (λ (z : Stocked). ltb p z.lid) ys) (lt-ltb p y.lid here) ∙ ap (λ s. Some s) same
-  | inr later ↦ elim (cases_lt p y.lid) [
-    | inl early ↦ absurd (omega (arith, All-head (λ (z : Stocked). p < z.lid → x.lid ≤ z.lid) y ys least early, above_low y.lid ys x rising.1 later))
-    | inr low_one ↦
-        cond-false (ltb p y.lid) (Some y) (find (λ (z : Stocked). ltb p z.lid) ys) (le-ltb p y.lid low_one)
-        ∙ first_is ys y.lid p x rising.1 past later (All-tail (λ (z : Stocked). p < z.lid → x.lid ≤ z.lid) y ys least)
+module _ (test : Stocked → Bool) where
+  pub nearest_with : (k n i : ℕ) (ms : List (MaintainerState Record)) (m : MaintainerState Record) (a new b : Option (Slot Record)) → i < length ms → m ≡ get_or ms i m → m.number % n ≡ k
+      → AreRising m.entries → b ≡ first_of test m.entries → new ≡ nearer_of a b → IsNearest test (read_by k n (take i ms)) a → IsNearest test (read_by k n (take (i + 1) ms)) new
+  nearest_with k n i ms m a new b within is chosen rising after nearer h =
+      let whole = read_by_more k n i ms m within is ∙ ap (λ es. read_by k n (take i ms) ++ es) (cond-true (eqb (m.number % n) k) m.entries [] (eq-eqb (m.number % n) k chosen)) in
+      let both : IsNearest test (read_by k n (take i ms) ++ m.entries) (nearer_of a (first_of test m.entries)) = nearest_of_both test (read_by k n (take i ms)) m.entries a (first_of test m.entries) h (first_is_nearest test m.entries rising) in
+      let P : List (Slot Record) → Type 0 = λ es. IsNearest test es new in
+      subst P (sym whole) (subst (IsNearest test (read_by k n (take i ms) ++ m.entries)) (ap (nearer_of a) (sym after) ∙ sym nearer) both)
+
+  pub nearest_without : (k n i : ℕ) (ms : List (MaintainerState Record)) (m : MaintainerState Record) (a new : Option (Slot Record)) → i < length ms → m ≡ get_or ms i m → (m.number % n ≡ k → ⊥)
+      → new ≡ a → IsNearest test (read_by k n (take i ms)) a → IsNearest test (read_by k n (take (i + 1) ms)) new
+  nearest_without k n i ms m a new within is other same h =
+      let whole = read_by_more k n i ms m within is ∙ ap (λ es. read_by k n (take i ms) ++ es) (cond-false (eqb (m.number % n) k) m.entries [] (ne_eqb (m.number % n) k other)) ∙ append-nil (read_by k n (take i ms)) in
+      subst (λ es. IsNearest test es new) (sym whole) (subst (IsNearest test (read_by k n (take i ms))) (sym same) h)
+
+  first_is : (held : List Stocked) (low : ℕ) (x : Stocked) → IsRisingFrom low held → test x ≡ true → Contains held x → All (λ (y : Stocked). test y ≡ true → x.lid ≤ y.lid) held
+      → find test held ≡ Some x
+  first_is [] low x rising passes has least = absurd (omega (arith, has.1))
+  first_is (y ∷ ys) low x rising passes has least = elim (Contains-cases y x ys has) [
+    | inl same ↦ cond-true (test y) (Some y) (find test ys) (ap test same ∙ passes) ∙ ap (λ s. Some s) same
+    | inr later ↦ elim (cases_Bool (test y)) [
+      | inl early ↦ absurd (omega (arith, All-head (λ (z : Stocked). test z ≡ true → x.lid ≤ z.lid) y ys least early, above_low y.lid ys x rising.1 later))
+      | inr fails ↦ cond-false (test y) (Some y) (find test ys) fails ∙ first_is ys y.lid x rising.1 passes later (All-tail (λ (z : Stocked). test z ≡ true → x.lid ≤ z.lid) y ys least)
+    ]
   ]
-]
 
-none_is : (held : List Stocked) (p : ℕ) → All (λ (y : Stocked). y.lid ≤ p) held → find (λ (y : Stocked). ltb p y.lid) held ≡ None
-none_is [] p low = refl
-none_is (y ∷ ys) p low =
-    cond-false (ltb p y.lid) (Some y) (find (λ (z : Stocked). ltb p z.lid) ys) (le-ltb p y.lid (All-head (λ (z : Stocked). z.lid ≤ p) y ys low))
-    ∙ none_is ys p (All-tail (λ (z : Stocked). z.lid ≤ p) y ys low)
+  none_is : (held : List Stocked) → All (λ (y : Stocked). test y ≡ false) held → find test held ≡ None
+  none_is [] fail = refl
+  none_is (y ∷ ys) fail =
+      cond-false (test y) (Some y) (find test ys) (All-head (λ (z : Stocked). test z ≡ false) y ys fail) ∙ none_is ys (All-tail (λ (z : Stocked). test z ≡ false) y ys fail)
 
-pub nearest_is : (ms : List (MaintainerState Record)) (k n p : ℕ) (o : Option (Slot Record)) → AreApart ms → IsNearest (read_by k n ms) p o
-    → option_map stocked o ≡ find (λ (x : Stocked). ltb p x.lid) (stock_of ms k n)
-nearest_is ms k n p None apart h = sym (none_is (stock_of ms k n) p (All-sorted (λ (y : Stocked). y.lid ≤ p) [] (read_by k n ms) (All-nil (λ (y : Stocked). y.lid ≤ p)) h))
-nearest_is ms k n p (Some e) apart h =
-    sym (first_is (stock_of ms k n) 0 p (stocked e) (stock_rises ms k n apart) h.past (there-sorted e [] (read_by k n ms) h.there)
-    (All-sorted (λ (y : Stocked). p < y.lid → e.lid ≤ y.lid) [] (read_by k n ms) (All-nil (λ (y : Stocked). p < y.lid → e.lid ≤ y.lid)) h.least))
+  nearest_is : (ms : List (MaintainerState Record)) (k n : ℕ) (o : Option (Slot Record)) → AreApart ms → IsNearest test (read_by k n ms) o → option_map stocked o ≡ find test (stock_of ms k n)
+  nearest_is ms k n None apart h = sym (none_is (stock_of ms k n) (All-sorted (λ (y : Stocked). test y ≡ false) [] (read_by k n ms) (All-nil (λ (y : Stocked). test y ≡ false)) h))
+  nearest_is ms k n (Some e) apart h =
+      sym (first_is (stock_of ms k n) 0 (stocked e) (stock_rises ms k n apart) h.passes (there-sorted e [] (read_by k n ms) h.there)
+      (All-sorted (λ (y : Stocked). test y ≡ true → e.lid ≤ y.lid) [] (read_by k n ms) (All-nil (λ (y : Stocked). test y ≡ true → e.lid ≤ y.lid)) h.least))
+
+  pub nearest_at_end : (ms items : List (MaintainerState Record)) (k n i : ℕ) (o : Option (Slot Record)) → items ≡ ms → i ≡ length items → AreApart ms → IsNearest test (read_by k n (take i items)) o
+      → option_map stocked o ≡ find test (stock_of ms k n)
+  nearest_at_end ms items k n i o same whole apart h =
+      let P : List (MaintainerState Record) → Type 0 = λ xs. IsNearest test (read_by k n xs) o in
+      nearest_is ms k n o apart (subst P (ap (λ j. take j items) whole ∙ take-length items ∙ same) h)
 
 -- what is at a place is the first above the place before it
 pub record IsAtPlace (held : List Stocked) (low p : ℕ) : Type 0 where
@@ -282,9 +283,3 @@ pub read_there : (held : List Stocked) (p : ℕ) (o : Option (Slot Record)) (e :
     → record_at held p ≡ Some e.value
 read_there held p o e rising some next is =
     (at_place held 0 p rising some).is ∙ ap (option_map (λ (x : Stocked). x.rec)) (sym next ∙ ap (option_map stocked) is)
-
-pub nearest_at_end : (ms items : List (MaintainerState Record)) (k n i p : ℕ) (o : Option (Slot Record)) → items ≡ ms → i ≡ length items → AreApart ms → IsNearest (read_by k n (take i items)) p o
-    → option_map stocked o ≡ find (λ (x : Stocked). ltb p x.lid) (stock_of ms k n)
-nearest_at_end ms items k n i p o same whole apart h =
-    let P : List (MaintainerState Record) → Type 0 = λ xs. IsNearest (read_by k n xs) p o in
-    nearest_is ms k n p o apart (subst P (ap (λ j. take j items) whole ∙ take-length items ∙ same) h)

@@ -54,8 +54,8 @@ pub fn deliver(
     })
 }
 
-/// The message that the packet spells.
-pub(crate) fn message_in(alloc: Global, packet: &Packet, table: &Aware) -> Result<Message, NoMemory>
+// The message that the packet spells.
+fn message_in(alloc: Global, packet: &Packet, table: &Aware) -> Result<Message, NoMemory>
     requires { (m : MessageValue) × SpellsMessage (length table.now.table) packet.now m }
     ensures is { (m : MessageValue) → SpellsMessage (length table.now.table) packet.now m → IfOk result (λ found. found ≡ m) }
     ensures square { IsSquare (length table.now.table) table.now.table }

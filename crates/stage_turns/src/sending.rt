@@ -1,13 +1,13 @@
 ghost use Rattle.std.specs.Prelude.{◌≡◌, ◌≢◌, ◌↔◌, ◌≤◌, [], false, length, IfOk, IsTrue};
 ghost use Rattle.abstract_log.specs.declared.script.Outcome.TheVariants.{Sent};
 ghost use Rattle.record_codec.specs.Wire.{SpellsMessage};
-ghost use Rattle.sender_receiver.specs.Choosing.{first_new, is_new};
+ghost use Rattle.sender_receiver.specs.Choosing.{first_new};
 ghost use Rattle.sender_receiver.specs.Stocks.{records_in};
 ghost use Rattle.stage_world.specs.MoreTurns.{names_of};
 ghost use Rattle.stage_turns.specs.Told.{MayLook, MayTell, told_by};
 
 use crate::TurnDone;
-use crate::receiving::{message_in, names_of};
+use crate::receiving::names_of;
 use crate::sender_stock::SenderStock;
 use abstract_log::Outcome;
 use awareness_table::Aware;
@@ -15,7 +15,7 @@ use causal_deps::Record;
 use cz_base::{DcId, NoMemory, Seq, Toid};
 use lossy_links::Packet;
 use maintainer::Maintainer;
-use sender_receiver::{Sender, Stock};
+use sender_receiver::{Sender, Stock, Told};
 
 /// What a sender's turn answers, and the packet that goes into the link.
 #[derive(Debug, Drop)]
@@ -46,21 +46,21 @@ pub fn send(
         k,
         senders,
     };
-    let packet = Packet::from_vec(sender.build(to, table, &stock)?);
-    let alloc = maintainers.alloc();
-    // The outcome names what the packet tells, so it is read there.
-    let told = message_in(alloc, &packet, table)?;
+    let Told { message, bytes } = sender.tell(to, table, &stock)?;
     let outcome = Outcome::Sent {
-        names: names_of(&told.records)?,
+        names: names_of(&message.records)?,
         link: 0,
         lost: false,
     };
     let done = TurnDone {
         outcome,
-        events: Seq::new(alloc),
+        events: Seq::new(maintainers.alloc()),
         changed: false,
     };
-    Ok(SendDone { done, packet })
+    Ok(SendDone {
+        done,
+        packet: Packet::from_vec(bytes),
+    })
 }
 
 /// Whether the message of sender k of so many at `dc` to a datacentre would hold a record. No memory is taken.
@@ -87,18 +87,5 @@ pub fn has_more(
 fn has_news<T: Stock>(host: DcId, known: Toid, stock: &T) -> bool
     ensures { IsTrue result ↔ (first_new host known (records_in (T.held stock.now)) ≢ []) }
 {
-    let mut lid = 0;
-    'places: while let Some(next) = stock.after(lid) {
-        if is_news(stock.rec(next), host, known) {
-            return true;
-        }
-        lid = next;
-    }
-    false
-}
-
-fn is_news(rec: &Record, host: DcId, known: Toid) -> bool
-    ensures { result ≡ is_new host known rec.now }
-{
-    rec.host == host && known < rec.toid
+    stock.next_new(host, known, 0).is_some()
 }

@@ -1,9 +1,9 @@
 use Rattle.std.proofs.Common.{length}
-use Rattle.sender_receiver.proofs.Walking.{IsWalked, above}
+use Rattle.sender_receiver.proofs.Walking.{IsWalked, news}
 use Rattle.sender_receiver.proofs.choosing.first_news.Given as goal
 
-abbrev pub invariant-places : goal.invariant-places
-invariant-places g l = IsWalked l.host l.known (g.T.Stock.held l.stock) l.lid l.records
+abbrev pub invariant-news : goal.invariant-news
+invariant-news g l = IsWalked l.host l.known (g.T.Stock.held l.stock) l.lid l.records
 
-abbrev pub decreases-places : goal.decreases-places
-decreases-places g l = length (above l.lid (g.T.Stock.held l.stock))
+abbrev pub decreases-news : goal.decreases-news
+decreases-news g l = length (news l.host l.known l.lid (g.T.Stock.held l.stock))

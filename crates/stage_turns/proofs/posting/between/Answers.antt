@@ -1,9 +1,7 @@
-use Rattle.std.proofs.Common.{◌-◌, ltb, ltb-true, ltb-false, take, drop, List, ap, ◌∙◌, rules}
+use Rattle.std.proofs.Common.{◌-◌, ltb, ltb-true, ltb-false, take, drop, ap, ◌∙◌, rules}
 use Rattle.std.proofs.lemmas.List.Sorted.{IsPartitionPoint-from_clause, IsPartitionedBy-ltb}
-use Rattle.causal_deps.specs.declared.record.Record.{Record}
-use Rattle.maintainer.specs.declared.slot.Slot.{Slot}
 use Rattle.maintainer.proofs.SlotLemmas.{rising_non_decreasing}
-use Rattle.stage_turns.proofs.PostingLemmas.{AreParted, between_is}
+use Rattle.stage_turns.proofs.PostingLemmas.{between_is}
 use Rattle.stage_turns.proofs.posting.between.Goals as goal
 
 pub returns : goal.returns

@@ -1,4 +1,4 @@
-use Rattle.std.proofs.Common.{List, map, ap, ◌∙◌}
+use Rattle.std.proofs.Common.{map, ap, ◌∙◌}
 use Rattle.stage_world.specs.MoreTurns.{row_made}
 use Rattle.stage_turns.proofs.PostingLemmas.{read_own, read_posted}
 use Rattle.stage_turns.proofs.posting.post.Goals as goal
