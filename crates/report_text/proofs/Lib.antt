@@ -3,3 +3,4 @@ pub mod LeftLemmas
 pub mod Whole
 pub mod SummaryLemmas
 pub mod JsonLemmas
+pub mod OrderLemmas

@@ -5,3 +5,4 @@ pub mod Turns
 pub mod Report
 pub mod Summary
 pub mod Json
+pub mod Order

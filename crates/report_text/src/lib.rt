@@ -4,6 +4,7 @@
 
 mod events;
 mod json_form;
+mod laws;
 mod report;
 mod summary_form;
 mod text;
@@ -11,6 +12,7 @@ mod turns;
 mod values;
 
 pub use json_form::json;
+pub use laws::replies_stand_in_order;
 pub use report::{full, logs};
 pub use summary_form::summary;
 pub use text::Text;

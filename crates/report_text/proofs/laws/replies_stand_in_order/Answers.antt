@@ -1,0 +1,5 @@
+use Rattle.report_text.proofs.OrderLemmas.{in_order}
+use Rattle.report_text.proofs.laws.replies_stand_in_order.Goals as goal
+
+pub returns : goal.returns
+returns c = in_order
