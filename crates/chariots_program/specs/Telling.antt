@@ -14,4 +14,4 @@ pub record IsTold (form : Form) (script : Script) (told : Told) : Type 0 where
 pub record IsToldOfSource (form : Form) (old new : Option (List ℕ)) (told : Told) : Type 0 where
   pub script : Script
   pub read : WasRead old new script
-  pub told : IsTold form script told
+  pub report : IsTold form script told
