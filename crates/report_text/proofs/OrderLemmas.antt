@@ -1,11 +1,10 @@
 -- The replies of a session stand by the numbers of its commands.
-use Rattle.std.proofs.Common.{◌≡◌, ℕ, zero, suc, ◌+◌, ◌<◌, ◌==◌, ◌&&◌, Bool, true, false, if◌then◌else◌, cond, eqb, List, [], ◌∷◌, ◌++◌, length, map, take, get_or, set, refl, ap, sym, ◌∙◌, inl, inr, arith, append_assoc, append-nil, Option, Some, None}
+use Rattle.std.proofs.Common.{◌≡◌, ℕ, zero, suc, ◌+◌, ◌<◌, ◌==◌, ◌&&◌, Bool, true, false, if◌then◌else◌, eqb, List, [], ◌∷◌, ◌++◌, length, map, take, get_or, set, refl, ap, sym, ◌∙◌, inl, inr, arith, append_assoc, append-nil, Option, Some, None}
 use Rattle.std.proofs.lemmas.Bool.{cases_eq, cond-true, cond-false, eq-eqb, ne_eqb, eqb-true}
 use Rattle.std.proofs.lemmas.List.{get_or-set_same, get_or-set_other, map-append}
 use Rattle.std.proofs.lemmas.List.Concat.{flat_map-cons}
 use Rattle.std.proofs.lemmas.List.FromFn.{map-range_with_len_more}
 use Rattle.std.specs.List.{flat_map}
-use Rattle.std.specs.Option.{IsSomeAnd}
 use Rattle.abstract_log.specs.declared.command.Command.{Command}
 use Rattle.abstract_log.specs.declared.command.SessionPlan.{SessionPlan}
 use Rattle.abstract_log.specs.declared.command.Workload.{Workload}
@@ -13,10 +12,9 @@ use Rattle.abstract_log.specs.declared.event.Event.{Event}
 use Rattle.abstract_log.specs.declared.event.Event.TheVariants.{Submit, Append, Receive, Add, Learn, Reply, Collect}
 use Rattle.abstract_log.specs.declared.world.Standing.{Standing}
 use Rattle.abstract_log.specs.declared.world.World.{World}
-use Rattle.abstract_log.specs.Answers.{past_with, places_in}
 use Rattle.abstract_log.specs.Runs.{IsRun, CanAllHappen, after_all, world_of}
 use Rattle.abstract_log.specs.Steps.{CanHappen, after}
-use Rattle.abstract_log.specs.Worlds.{first_standing, nowhere, open_command, standing_of, plan_of, start}
+use Rattle.abstract_log.specs.Worlds.{first_standing, nowhere, open_command, standing_of, start}
 use Rattle.abstract_log.proofs.Writing.{IsSomeAnd_is}
 use Rattle.causal_deps.proofs.Lists.{get_or-set_cases}
 use Rattle.report_text.specs.Order.{heads_upto, reply_heads}
@@ -50,7 +48,7 @@ module _ (w : World) (by k s : ℕ) (st : Standing) (line : List (List ℕ)) whe
     | inl same ↦
         let asked : (if by == s then line ∷ [] else []) ≡ line ∷ [] = cond-true (eqb by s) (line ∷ []) [] (eq-eqb by s same) in
         let now : (get_or (set w.sessions by st) s nowhere).answered ≡ k =
-            ap (λ i. (get_or (set w.sessions by st) i nowhere).answered) (sym same) ∙ ap (λ (x : Standing). x.answered) (get_or-set_same w.sessions by st nowhere there) ∙ answered in
+        ap (λ i. (get_or (set w.sessions by st) i nowhere).answered) (sym same) ∙ ap (λ (x : Standing). x.answered) (get_or-set_same w.sessions by st nowhere there) ∙ answered in
         let is_next : answered_in w s + 1 ≡ k = ap (λ i. answered_in w i + 1) (sym same) ∙ next in
         ap (λ lines. heads_upto s (answered_in w s) ++ map (take 2) lines) asked ∙ one_more s (answered_in w s) k line is_next head ∙ ap (heads_upto s) (sym now)
     | inr other ↦
