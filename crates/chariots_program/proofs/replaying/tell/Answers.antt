@@ -1,4 +1,3 @@
-use Rattle.chariots_program.proofs.Shown.{left_told, limits_told, run_shown, run_told}
 use Rattle.chariots_program.proofs.ScriptFits.{all_fit_are_steps, all_steps_built}
 use Rattle.chariots_program.proofs.replaying.tell.Goals as goal
 
