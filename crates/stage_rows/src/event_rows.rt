@@ -1,9 +1,7 @@
 ghost use Rattle.std.specs.Prelude.{◌≡◌, ◌<◌, length};
 ghost use Rattle.abstract_log.specs.Shapes.{IsShaped};
 
-use abstract_log::{
-    Answer, Command, Event, Found, ReadAnswer, SessionPlan, StepFault, Workload, World,
-};
+use abstract_log::{Answer, Command, Event, Found, ReadAnswer, SessionPlan, Workload, World};
 use causal_deps::{BoxedTable, Counts, Kind, Place, Table};
 use cz_base::{Body, DcId, Name, NoMemory, Seq};
 use std::alloc::Global;
@@ -231,46 +229,4 @@ fn each_kind_of_event_happens(rt: HostRuntime) -> Result<(), Fail> {
         Some(Answer::Read(ReadAnswer::Beyond)) => Ok(()),
         _ => Err(Fail::from("a position above the one that is read at")),
     }
-}
-
-// One session of A with one append.
-fn one_append(alloc: Global) -> Result<Workload, Fail> {
-    let mut commands = Seq::new(alloc);
-    commands.push(Command::Append {
-        tags: Seq::new(alloc),
-        body: Body::read(alloc, b"hi")?,
-    })?;
-    let mut sessions = Seq::new(alloc);
-    sessions.push(SessionPlan { home: A, commands })?;
-    Ok(Workload { dcs: 1, sessions })
-}
-
-#[test]
-fn an_append_at_another_position_is_refused(rt: HostRuntime) -> Result<(), Fail> {
-    let alloc = rt.alloc();
-    let mut world = World::start(alloc, &one_append(alloc)?)?;
-    let submit = Event::Submit {
-        session: 0,
-        index: 1,
-    };
-    takes(&rt, &mut world, &submit);
-    let beyond = Event::Append {
-        dc: A,
-        session: 0,
-        index: 1,
-        lid: 2,
-        toid: 1,
-    };
-    assert_eq!(&rt; world.step(&beyond), Err(StepFault::Refused { place: 3 }));
-    // The world is as before: its command is still open, and position 1 is the next.
-    assert_eq!(&rt; world.step(&submit), Err(StepFault::Refused { place: 2 }));
-    let next = Event::Append {
-        dc: A,
-        session: 0,
-        index: 1,
-        lid: 1,
-        toid: 1,
-    };
-    takes(&rt, &mut world, &next);
-    Ok(())
 }
