@@ -15,3 +15,4 @@ pub mod PresentLemmas
 pub mod ValidRecords
 pub mod LimitedRuns
 pub mod FinishedLogs
+pub mod LawfulAfter

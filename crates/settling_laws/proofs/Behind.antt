@@ -29,7 +29,7 @@ use Rattle.stage_world.proofs.ReceiveTurn.{names_keep}
 use Rattle.stage_world.proofs.ListLemmas.{Contains-filter}
 use Rattle.stage_world.proofs.AllTurns.{step_kept}
 use Rattle.settling_laws.specs.Rounds.{IsStanding}
-use Rattle.settling_laws.proofs.LawfulAfter.{lawful_after, workload_stays}
+use Rattle.log_laws.proofs.LawfulAfter.{lawful_after, workload_stays}
 
 -- number t of host h is awaited at g or in its log
 abbrev pub IsDueAt : World → ℕ → ℕ → ℕ → Type 0

@@ -1,4 +1,3 @@
-pub mod LawfulAfter
 pub mod Live
 pub mod Walks
 pub mod Progress

@@ -14,7 +14,7 @@ use Rattle.stage_world.specs.Whole.{datacentre_at, nowhere_at, with_turn}
 use Rattle.stage_world.specs.Schedules.{IsStep, IsKept, turn_of, step_of, after_steps}
 use Rattle.stage_world.proofs.AllTurns.{step_kept}
 use Rattle.settling_laws.specs.Rounds.{IsStanding}
-use Rattle.settling_laws.proofs.LawfulAfter.{lawful_after, workload_stays}
+use Rattle.log_laws.proofs.LawfulAfter.{lawful_after, workload_stays}
 
 -- the step is a turn of a local round of datacentre d
 abbrev pub IsTurnAt : Workload → ℕ → Step → Type 0

@@ -25,7 +25,7 @@ use Rattle.stage_world.specs.Settling.{is_unanswered, has_unanswered, is_answeri
 use Rattle.stage_world.proofs.AllTurns.{step_kept}
 use Rattle.settling_laws.specs.Rounds.{IsStanding, EndsAnswering}
 use Rattle.settling_laws.specs.Ending.{AreQuiet, EndsTelling, EndsSettling, IsFinishedBy}
-use Rattle.settling_laws.proofs.LawfulAfter.{lawful_after, workload_stays, kept_of}
+use Rattle.log_laws.proofs.LawfulAfter.{lawful_after, workload_stays, kept_of}
 use Rattle.settling_laws.proofs.Live.{steps_stand}
 use Rattle.settling_laws.proofs.Rounds.{after_steps-append}
 use Rattle.settling_laws.proofs.Loop.{answering_ends_at, answering_steps}

@@ -3,7 +3,6 @@ pub mod StampedItems
 pub mod AckLemmas
 pub mod RingLemmas
 pub mod StampLemmas
-pub mod LawfulAfter
 pub mod StampStands
 pub mod StampTurns
 pub mod Flushes

@@ -31,7 +31,7 @@ use Rattle.stage_world.proofs.DrainTurn.{stamp_turn_keeps}
 use Rattle.stage_world.proofs.WorldLemmas.{open_tells}
 use Rattle.stage_turns.specs.Lent.{HaveToken, MayMoveToken, queues_seen, token_seen}
 use Rattle.stage_turns.specs.Stamping.{IsNewAt, MayStamp, drained_of, items_of}
-use Rattle.stage_turns.proofs.LawfulAfter.{lawful_after}
+use Rattle.log_laws.proofs.LawfulAfter.{lawful_after}
 use Rattle.stage_turns.proofs.RingLemmas.{token_is}
 
 pub queue_seen : (qs zs : List QueueState) (i : ℕ) → queues_seen qs ≡ zs → tokenless (queue_at qs i) ≡ queue_at zs i
