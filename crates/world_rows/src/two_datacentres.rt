@@ -94,15 +94,12 @@ fn take_all(stages: &mut Stages, workload: &Workload, steps: &[Step]) -> Result<
     Ok(())
 }
 
-// A puts x; the first message is lost, the second comes twice, and B adds the record once and reads it.
-#[test]
-fn a_put_is_read_elsewhere(rt: HostRuntime) -> Result<(), Fail> {
-    let alloc = rt.alloc();
+// A's first message is lost; its second comes twice, the second time at a receiver that is not there.
+fn schedule() -> [Step; 23] {
     let a = DcId::FIRST;
     let b = second();
-    let script = script(alloc)?;
-    let mut stages = Stages::start(alloc, &script)?;
-    let steps = [
+    let deliver = |k, r| Step::Deliver { d: a, e: b, k, r };
+    [
         Step::Client { s: 0 },
         Step::Flush { d: a, b: 0 },
         Step::Pass { d: a, f: 0, q: 0 },
@@ -113,26 +110,11 @@ fn a_put_is_read_elsewhere(rt: HostRuntime) -> Result<(), Fail> {
         Step::Learn { d: a },
         Step::Send { d: a, k: 0, e: b },
         Step::Lose { d: a, e: b, k: 1 },
-        Step::Deliver {
-            d: a,
-            e: b,
-            k: 1,
-            r: 0,
-        },
+        deliver(1, 0),
         Step::Send { d: a, k: 0, e: b },
         Step::Copy { d: a, e: b, k: 1 },
-        Step::Deliver {
-            d: a,
-            e: b,
-            k: 2,
-            r: 0,
-        },
-        Step::Deliver {
-            d: a,
-            e: b,
-            k: 1,
-            r: 1,
-        },
+        deliver(2, 0),
+        deliver(1, 1),
         Step::Flush { d: b, b: 0 },
         Step::Pass { d: b, f: 0, q: 0 },
         Step::Pass { d: b, f: 1, q: 0 },
@@ -141,37 +123,48 @@ fn a_put_is_read_elsewhere(rt: HostRuntime) -> Result<(), Fail> {
         Step::Gossip { d: b, m: 0, k: 0 },
         Step::Gossip { d: b, m: 0, k: 1 },
         Step::Client { s: 1 },
-    ];
-    take_all(&mut stages, &script.workload, &steps)?;
-    let played = stages.finish()?;
-    assert_eq!(rt; played.stages.len(), 23);
-    let lines = played.stages.as_slice();
-    assert!(rt; matches!(&lines[0].outcome, Outcome::Submitted { k: 1 }));
-    assert!(rt;
-        matches!(
-            &lines[8].outcome,
+    ]
+}
+
+// Whether a line of the schedule tells what it has to.
+fn is_right(turn: usize, outcome: &Outcome) -> bool {
+    match turn {
+        0 => matches!(outcome, Outcome::Submitted { k: 1 }),
+        8 => matches!(
+            outcome,
             Outcome::Sent {
                 link: 1,
                 lost: false,
                 ..
             }
-        )
-    );
-    assert!(rt; matches!(&lines[9].outcome, Outcome::Lost));
-    assert!(rt; matches!(&lines[10].outcome, Outcome::Absent));
-    assert!(rt;
-        matches!(
-            &lines[12].outcome,
+        ),
+        9 => matches!(outcome, Outcome::Lost),
+        10 | 14 => matches!(outcome, Outcome::Absent),
+        12 => matches!(
+            outcome,
             Outcome::Copied {
                 link: 2,
                 lost: false
             }
-        )
-    );
-    assert!(rt; matches!(&lines[13].outcome, Outcome::Received { .. }));
-    assert!(rt; matches!(&lines[14].outcome, Outcome::Absent));
-    assert!(rt; matches!(&lines[20].outcome, Outcome::Head { at: 1 }));
-    assert!(rt; matches!(&lines[22].outcome, Outcome::Replied { k: 1 }));
+        ),
+        13 => matches!(outcome, Outcome::Received { .. }),
+        20 => matches!(outcome, Outcome::Head { at: 1 }),
+        22 => matches!(outcome, Outcome::Replied { k: 1 }),
+        _ => true,
+    }
+}
+
+// A puts x, and B adds the record once and reads it.
+#[test]
+fn a_put_is_read_elsewhere(rt: HostRuntime) -> Result<(), Fail> {
+    let script = script(rt.alloc())?;
+    let mut stages = Stages::start(rt.alloc(), &script)?;
+    take_all(&mut stages, &script.workload, &schedule())?;
+    let played = stages.finish()?;
+    assert_eq!(rt; played.stages.len(), 23);
+    for (turn, line) in played.stages.iter().enumerate() {
+        assert!(rt; is_right(turn, &line.outcome), "turn {turn}");
+    }
     // Submit, append, learn at A; receive, add, submit, reply at B.
     assert_eq!(rt; played.run.events.len(), 7);
     assert!(rt; matches!(&played.run.events.as_slice()[6], Event::Reply { at: 1, .. }));
