@@ -27,7 +27,8 @@ use Rattle.settling_laws.specs.Rounds.{IsStanding}
 use Rattle.settling_laws.proofs.Rounds.{after_steps-append}
 use Rattle.settling_laws.proofs.Behind.{IsDueAt, behind_itself, behind_both, LeadsTo, stands_here}
 use Rattle.settling_laws.proofs.Errands.{IsBeside, beside_itself, beside_both, IsErrandDone, errand_runs}
-use Rattle.settling_laws.proofs.Stocks.{first_told, stock_all, stock_rises}
+use Rattle.stage_world.proofs.StockLemmas.{All-stock}
+use Rattle.settling_laws.proofs.Stocks.{first_told, stock_rises}
 
 -- an errand between two datacentres, by a sender that is there
 pub record IsErrand (load : Workload) (z : Stages) (x : Errand) : Type 0 where
@@ -93,7 +94,7 @@ module _ (load : Workload) (z : Stages) (h : IsStanding load z) (x : Errand) (go
   IsStock y = IsEntryOf (log_of w x.from) (record { lid = y.lid; value = y.rec })
 
   all_stock : All IsStock (stock_of v.maintainers x.sender v.senders)
-  all_stock = stock_all IsStock v.maintainers x.sender v.senders stands.placed.entries
+  all_stock = All-stock IsStock x.sender v.senders v.maintainers stands.placed.entries
 
   -- the next record is told, or it is there already
   next_told : (q : Record) → IsNext z x q → (q.toid ≤ count_of (log_of w x.to) x.from) ⊎ Contains m.records q

@@ -1,7 +1,7 @@
 -- What a sender reads: the records of its maintainers by rising position, and the first that it has to tell.
 use Rattle.std.proofs.Common.{◌≡◌, ◌⊎◌, ℕ, ◌%◌, ◌<◌, ◌≤◌, true, false, Bool, cond, ltb, eqb, List, [], ◌∷◌, ◌++◌, take, filter, refl, ap, sym, subst, ◌∙◌, inl, inr, arith}
-use Rattle.std.specs.List.{All, Contains, flat_map, fold}
-use Rattle.std.proofs.lemmas.List.Elements.{All-nil, All-cons, All-head, All-tail, All-append, All-contains}
+use Rattle.std.specs.List.{All, Contains}
+use Rattle.std.proofs.lemmas.List.Elements.{All-nil, All-cons, All-contains, Contains-append_left, Contains-append_right}
 use Rattle.std.proofs.lemmas.List.Sums.{sum_by-cons}
 use Rattle.std.proofs.lemmas.Bool.{cases_lt, cases_eq, cond_both, cond-true, cond-false, ltb-true, ltb-false, eq-eqb, eqb-true, true≢false}
 use Rattle.causal_deps.specs.declared.record.Record.{Record}
@@ -13,16 +13,12 @@ use Rattle.stage_world.specs.Stages.{filled}
 use Rattle.stage_world.specs.StandsFor.{gone_times}
 use Rattle.stage_world.specs.MoreTurns.{stocked, sorted_in, stock_of}
 use Rattle.stage_world.proofs.ListLemmas.{Contains-head, Contains-tail, Contains-cases}
+use Rattle.stage_world.proofs.StockLemmas.{read_by, sorted_with, All-sorted_in, there-sorted}
 
 -- positions do not fall along the list
 abbrev pub IsRising : List Stocked → Type 0
 IsRising [] = Unit {0}
 IsRising (x ∷ xs) = All (λ y. x.lid ≤ y.lid) xs × IsRising xs
-
-pub All-sorted_in : (P : Stocked → Type 0) (e : Stocked) (es : List Stocked) → P e → All P es → All P (sorted_in e es)
-All-sorted_in P e [] here all = All-cons P e [] here all
-All-sorted_in P e (x ∷ xs) here all = cond_both (ltb e.lid x.lid) (e ∷ x ∷ xs) (x ∷ sorted_in e xs) (All P) (λ _. All-cons P e (x ∷ xs) here all)
-    (λ _. All-cons P x (sorted_in e xs) (All-head P x xs all) (All-sorted_in P e xs here (All-tail P x xs all)))
 
 rising_in : (e : Stocked) (es : List Stocked) → IsRising es → IsRising (sorted_in e es)
 rising_in e [] rise = (All-nil (λ (y : Stocked). e.lid ≤ y.lid), tt)
@@ -32,61 +28,18 @@ rising_in e (x ∷ xs) rise = cond_both (ltb e.lid x.lid) (e ∷ x ∷ xs) (x �
     (All-cons (λ (y : Stocked). e.lid ≤ y.lid) x xs (omega arith) (λ k d within. omega (arith, less, rise.0 k d within)), rise))
     (λ above. (All-sorted_in (λ (y : Stocked). x.lid ≤ y.lid) e xs (ltb-false e.lid x.lid above) rise.0, rising_in e xs rise.1))
 
-rising_all : (es : List (Slot Record)) (sorted : List Stocked) → IsRising sorted → IsRising (fold (λ ys e. sorted_in (stocked e) ys) sorted es)
+rising_all : (es : List (Slot Record)) (sorted : List Stocked) → IsRising sorted → IsRising (sorted_with sorted es)
 rising_all [] sorted rise = rise
 rising_all (e ∷ es) sorted rise = rising_all es (sorted_in (stocked e) sorted) (rising_in (stocked e) sorted rise)
 
-in_sorted : (e : Stocked) (es : List Stocked) → Contains (sorted_in e es) e
-in_sorted e [] = Contains-head e []
-in_sorted e (x ∷ xs) = cond_both (ltb e.lid x.lid) (e ∷ x ∷ xs) (x ∷ sorted_in e xs) (λ ys. Contains ys e) (λ _. Contains-head e (x ∷ xs)) (λ _. Contains-tail x e (sorted_in e xs) (in_sorted e xs))
-
-stays_in : (e y : Stocked) (es : List Stocked) → Contains es y → Contains (sorted_in e es) y
-stays_in e y [] has = absurd (omega (arith, has.1))
-stays_in e y (x ∷ xs) has = cond_both (ltb e.lid x.lid) (e ∷ x ∷ xs) (x ∷ sorted_in e xs) (λ ys. Contains ys y) (λ _. Contains-tail e y (x ∷ xs) has)
-    (λ _. elim (Contains-cases x y xs has) [
-      | inl same ↦ subst (λ v. Contains (x ∷ sorted_in e xs) v) same (Contains-head x (sorted_in e xs))
-      | inr later ↦ Contains-tail x y (sorted_in e xs) (stays_in e y xs later)
-    ])
-
-all_stay : (es : List (Slot Record)) (sorted : List Stocked) (y : Stocked) → Contains sorted y → Contains (fold (λ ys e. sorted_in (stocked e) ys) sorted es) y
-all_stay [] sorted y has = has
-all_stay (e ∷ es) sorted y has = all_stay es (sorted_in (stocked e) sorted) y (stays_in (stocked e) y sorted has)
-
-all_come : (es : List (Slot Record)) (sorted : List Stocked) (e : Slot Record) → Contains es e → Contains (fold (λ ys x. sorted_in (stocked x) ys) sorted es) (stocked e)
-all_come [] sorted e has = absurd (omega (arith, has.1))
-all_come (x ∷ xs) sorted e has = elim (Contains-cases x e xs has) [
-  | inl same ↦ all_stay xs (sorted_in (stocked x) sorted) (stocked e) (subst (λ v. Contains (sorted_in (stocked x) sorted) (stocked v)) same (in_sorted (stocked x) sorted))
-  | inr later ↦ all_come xs (sorted_in (stocked x) sorted) e later
-]
-
-pub All-stocked : (P : Stocked → Type 0) (sorted : List Stocked) (es : List (Slot Record)) → All P sorted → All (λ e. P (stocked e)) es → All P (fold (λ ys e. sorted_in (stocked e) ys) sorted es)
-All-stocked P sorted [] had all = had
-All-stocked P sorted (e ∷ es) had all =
-    All-stocked P (sorted_in (stocked e) sorted) es (All-sorted_in P (stocked e) sorted (All-head (λ x. P (stocked x)) e es all) had) (All-tail (λ x. P (stocked x)) e es all)
-
--- the entries of a sender's maintainers
-abbrev entries_for : List (MaintainerState Record) → ℕ → ℕ → List (Slot Record)
-entries_for ms k n = flat_map (λ m. cond (eqb (m.number % n) k) m.entries []) ms
-
-pub in_left : {X : Type 0} (xs ys : List X) (x : X) → Contains xs x → Contains (xs ++ ys) x
-in_left [] ys x has = absurd (omega (arith, has.1))
-in_left (y ∷ xs) ys x has = elim (Contains-cases y x xs has) [
-  | inl same ↦ subst (Contains (y ∷ xs ++ ys)) same (Contains-head y (xs ++ ys))
-  | inr later ↦ Contains-tail y x (xs ++ ys) (in_left xs ys x later)
-]
-
-pub in_right : {X : Type 0} (xs ys : List X) (x : X) → Contains ys x → Contains (xs ++ ys) x
-in_right [] ys x has = has
-in_right (y ∷ xs) ys x has = Contains-tail y x (xs ++ ys) (in_right xs ys x has)
-
 -- an entry of a maintainer is one of its sender's
-entry_chosen : (ms : List (MaintainerState Record)) (n : ℕ) (m : MaintainerState Record) (e : Slot Record) → Contains ms m → Contains m.entries e → Contains (entries_for ms (m.number % n) n) e
+entry_chosen : (ms : List (MaintainerState Record)) (n : ℕ) (m : MaintainerState Record) (e : Slot Record) → Contains ms m → Contains m.entries e → Contains (read_by (m.number % n) n ms) e
 entry_chosen [] n m e has_m has_e = absurd (omega (arith, has_m.1))
 entry_chosen (x ∷ xs) n m e has_m has_e = elim (Contains-cases x m xs has_m) [
-  | inl same ↦ in_left (cond (eqb (x.number % n) (m.number % n)) x.entries []) (entries_for xs (m.number % n) n) e
+  | inl same ↦ Contains-append_left (cond (eqb (x.number % n) (m.number % n)) x.entries []) (read_by (m.number % n) n xs) e
       (subst (λ (v : MaintainerState Record). Contains (cond (eqb (v.number % n) (m.number % n)) v.entries []) e) (sym same)
       (subst (λ es. Contains es e) (sym (cond-true (eqb (m.number % n) (m.number % n)) m.entries [] (eq-eqb (m.number % n) (m.number % n) refl))) has_e))
-  | inr later ↦ in_right (cond (eqb (x.number % n) (m.number % n)) x.entries []) (entries_for xs (m.number % n) n) e (entry_chosen xs n m e later has_e)
+  | inr later ↦ Contains-append_right (cond (eqb (x.number % n) (m.number % n)) x.entries []) (read_by (m.number % n) n xs) e (entry_chosen xs n m e later has_e)
 ]
 
 -- an entry at p, where p is among the positions
@@ -115,18 +68,10 @@ some_entry p (m ∷ ms) some none = at (cases_lt 0 (times_in p m.entries)) (λ r
 
 -- The stock of the sender of a maintainer has its entries, and rises.
 pub stock_has : (ms : List (MaintainerState Record)) (n : ℕ) (m : MaintainerState Record) (e : Slot Record) → Contains ms m → Contains m.entries e → Contains (stock_of ms (m.number % n) n) (stocked e)
-stock_has ms n m e has_m has_e = all_come (entries_for ms (m.number % n) n) [] e (entry_chosen ms n m e has_m has_e)
+stock_has ms n m e has_m has_e = there-sorted e [] (read_by (m.number % n) n ms) (entry_chosen ms n m e has_m has_e)
 
 pub stock_rises : (ms : List (MaintainerState Record)) (k n : ℕ) → IsRising (stock_of ms k n)
-stock_rises ms k n = rising_all (entries_for ms k n) [] tt
-
-chosen : (P : Slot Record → Type 0) (ms : List (MaintainerState Record)) (k n : ℕ) → All (λ m. All P m.entries) ms → All P (entries_for ms k n)
-chosen P [] k n all = All-nil P
-chosen P (m ∷ ms) k n all = All-append P (cond (eqb (m.number % n) k) m.entries []) (entries_for ms k n)
-    (cond_both (eqb (m.number % n) k) m.entries [] (All P) (λ _. All-head (λ (x : MaintainerState Record). All P x.entries) m ms all) (λ _. All-nil P)) (chosen P ms k n (All-tail (λ (x : MaintainerState Record). All P x.entries) m ms all))
-
-pub stock_all : (P : Stocked → Type 0) (ms : List (MaintainerState Record)) (k n : ℕ) → All (λ m. All (λ e. P (stocked e)) m.entries) ms → All P (stock_of ms k n)
-stock_all P ms k n all = All-stocked P [] (entries_for ms k n) (All-nil P) (chosen (λ e. P (stocked e)) ms k n all)
+stock_rises ms k n = rising_all (read_by k n ms) [] tt
 
 -- The first new record of a stock is told: whatever is new up to its position is that record.
 pub first_told : (d known : ℕ) (xs : List Stocked) (q : Stocked) → IsRising xs → Contains xs q → is_new d known q.rec ≡ true

@@ -1,7 +1,7 @@
 -- One pass of telling: a local round of each datacentre, then an exchange.
 use Rattle.std.proofs.Common.{◌≡◌, ◌≢◌, ℕ, zero, suc, ◌+◌, ◌-◌, ◌%◌, mod-lt, ◌<◌, ◌≤◌, true, cond, eqb, List, [], ◌∷◌, ◌++◌, length, refl, ap, sym, subst, ◌∙◌, inl, inr, arith, Some, slice_get, append-nil}
 use Rattle.std.specs.List.{All, Contains, filter, flat_map}
-use Rattle.std.proofs.lemmas.List.Elements.{All-nil, All-append, All-push, All-contains}
+use Rattle.std.proofs.lemmas.List.Elements.{All-nil, All-append, All-push, All-contains, Contains-append_left, Contains-append_right}
 use Rattle.std.proofs.lemmas.Grind.{flat_map-append}
 use Rattle.std.proofs.lemmas.Bool.{cases_lt, cond_both, cond-false, ne_eqb, eqb-false}
 use Rattle.std.proofs.lemmas.Option.{slice_get_within, same_Some}
@@ -28,7 +28,7 @@ use Rattle.settling_laws.proofs.LocalRound.{IsRoundOf, live_at, round_rounds}
 use Rattle.settling_laws.proofs.Answering.{sum_less, round_no_more}
 use Rattle.settling_laws.proofs.Rounds.{AreRoundsOf, rounds_are, rounded_at, after_steps-append}
 use Rattle.settling_laws.proofs.Behind.{LeadsTo, steps_lead, stands_here}
-use Rattle.settling_laws.proofs.Stocks.{in_left, in_right, some_entry, stock_has}
+use Rattle.settling_laws.proofs.Stocks.{some_entry, stock_has}
 use Rattle.settling_laws.proofs.Exchange.{IsErrand, IsNext, IsExchanged, exchanged}
 use Rattle.settling_laws.proofs.Choosing.{IsMissing}
 
@@ -85,8 +85,8 @@ all_pieces P g (suc n) each = subst (All P) (sym (flat_map-append g (below n) (n
 one_below : {X : Type 0} (f : ℕ → X) (n i : ℕ) → i < n → Contains (numbered f n) (f i)
 one_below f zero i low = absurd (omega (arith, low))
 one_below f (suc n) i low = elim (cases_lt i n) [
-  | inl before ↦ in_left (numbered f n) (f n ∷ []) (f i) (one_below f n i before)
-  | inr last ↦ let same : n ≡ i = omega (arith, low, last) in in_right (numbered f n) (f n ∷ []) (f i) (subst (λ k. Contains (f n ∷ []) (f k)) same (Contains-head (f n) []))
+  | inl before ↦ Contains-append_left (numbered f n) (f n ∷ []) (f i) (one_below f n i before)
+  | inr last ↦ let same : n ≡ i = omega (arith, low, last) in Contains-append_right (numbered f n) (f n ∷ []) (f i) (subst (λ k. Contains (f n ∷ []) (f k)) same (Contains-head (f n) []))
 ]
 
 in_piece : {X : Type 0} (g : ℕ → List X) (n i : ℕ) (x : X) → i < n → Contains (g i) x → Contains (flat_map g (below n)) x
@@ -94,8 +94,8 @@ in_piece g zero i x low has = absurd (omega (arith, low))
 in_piece g (suc n) i x low has =
     subst (λ ts. Contains ts x) (sym (flat_map-append g (below n) (n ∷ []) ∙ ap (λ ts. flat_map g (below n) ++ ts) (append-nil (g n))))
     (elim (cases_lt i n) [
-      | inl before ↦ in_left (flat_map g (below n)) (g n) x (in_piece g n i x before has)
-      | inr last ↦ let same : i ≡ n = omega (arith, low, last) in in_right (flat_map g (below n)) (g n) x (subst (λ k. Contains (g k) x) same has)
+      | inl before ↦ Contains-append_left (flat_map g (below n)) (g n) x (in_piece g n i x before has)
+      | inr last ↦ let same : i ≡ n = omega (arith, low, last) in Contains-append_right (flat_map g (below n)) (g n) x (subst (λ k. Contains (g k) x) same has)
     ])
 
 module _ (load : Workload) (z : Stages) (h : IsStanding load z) where

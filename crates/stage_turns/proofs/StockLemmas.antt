@@ -15,38 +15,11 @@ use Rattle.maintainer.proofs.CountLemmas.{rising-tail}
 use Rattle.sender_receiver.specs.Stocks.{Stocked, IsRisingFrom, record_at}
 use Rattle.stage_world.specs.Stages.{filled}
 use Rattle.stage_world.specs.MoreTurns.{sorted_in, stock_of, stocked}
-use Rattle.stage_world.proofs.ListLemmas.{Contains-head, Contains-tail, Contains-cases}
+use Rattle.stage_world.proofs.ListLemmas.{Contains-head, Contains-tail}
+use Rattle.stage_world.proofs.StockLemmas.{read_by, sorted_with, All-sorted_in, there-sorted, All-read_by}
 use Rattle.stage_turns.specs.Told.{AreApart, nearer_of}
 
--- the entries of the maintainers that sender k of n reads
-abbrev pub read_by : ℕ → ℕ → List (MaintainerState Record) → List (Slot Record)
-read_by k n ms = flat_map (λ m. cond (eqb (m.number % n) k) m.entries []) ms
-
-abbrev sorted_with : List Stocked → List (Slot Record) → List Stocked
-sorted_with held es = fold (λ ys e. sorted_in (stocked e) ys) held es
-
 -- an entry in its place
-
-All-sorted_in : (P : Stocked → Type 0) (e : Stocked) (es : List Stocked) → P e → All P es → All P (sorted_in e es)
-All-sorted_in P e [] here all = All-cons P e [] here all
-All-sorted_in P e (x ∷ xs) here all = cond_both (ltb e.lid x.lid) (e ∷ x ∷ xs) (x ∷ sorted_in e xs) (All P)
-    (λ _. All-cons P e (x ∷ xs) here all)
-    (λ _. All-cons P x (sorted_in e xs) (All-head P x xs all) (All-sorted_in P e xs here (All-tail P x xs all)))
-
-Contains-sorted_in : (e x : Stocked) (es : List Stocked) → Contains es x → Contains (sorted_in e es) x
-Contains-sorted_in e x [] has = absurd (omega (arith, has.1))
-Contains-sorted_in e x (y ∷ ys) has = cond_both (ltb e.lid y.lid) (e ∷ y ∷ ys) (y ∷ sorted_in e ys) (λ zs. Contains zs x)
-    (λ _. Contains-tail e x (y ∷ ys) has)
-    (λ _. elim (Contains-cases y x ys has) [
-      | inl same ↦ subst (λ z. Contains (z ∷ sorted_in e ys) x) (sym same) (Contains-head x (sorted_in e ys))
-      | inr later ↦ Contains-tail y x (sorted_in e ys) (Contains-sorted_in e x ys later)
-    ])
-
-there-sorted_in : (e : Stocked) (es : List Stocked) → Contains (sorted_in e es) e
-there-sorted_in e [] = Contains-head e []
-there-sorted_in e (y ∷ ys) = cond_both (ltb e.lid y.lid) (e ∷ y ∷ ys) (y ∷ sorted_in e ys) (λ zs. Contains zs e)
-    (λ _. Contains-head e (y ∷ ys))
-    (λ _. Contains-tail y e (sorted_in e ys) (there-sorted_in e ys))
 
 rising-sorted_in : (low : ℕ) (e : Stocked) (es : List Stocked) → IsRisingFrom low es → low < e.lid → All (λ (x : Stocked). x.lid ≡ e.lid → ⊥) es → IsRisingFrom low (sorted_in e es)
 rising-sorted_in low e [] rising past apart = (past, tt)
@@ -57,24 +30,6 @@ rising-sorted_in low e (x ∷ xs) rising past apart = elim (cases_lt e.lid x.lid
       let behind : x.lid < e.lid = elim (cases_eq x.lid e.lid) [ inl same ↦ absurd (other same) | inr not ↦ omega (arith, not) ] in
       subst (IsRisingFrom low) (sym (cond-false (ltb e.lid x.lid) (e ∷ x ∷ xs) (x ∷ sorted_in e xs) (le-ltb e.lid x.lid later)))
       (rising.0, rising-sorted_in x.lid e xs rising.1 behind (All-tail (λ (y : Stocked). y.lid ≡ e.lid → ⊥) x xs apart))
-]
-
--- several entries
-
-pub All-sorted : (P : Stocked → Type 0) (held : List Stocked) (es : List (Slot Record)) → All P held → All (λ e. P (stocked e)) es → All P (sorted_with held es)
-All-sorted P held [] had all = had
-All-sorted P held (e ∷ es) had all =
-    All-sorted P (sorted_in (stocked e) held) es (All-sorted_in P (stocked e) held (All-head (λ x. P (stocked x)) e es all) had) (All-tail (λ x. P (stocked x)) e es all)
-
-Contains-sorted : (x : Stocked) (held : List Stocked) (es : List (Slot Record)) → Contains held x → Contains (sorted_with held es) x
-Contains-sorted x held [] has = has
-Contains-sorted x held (e ∷ es) has = Contains-sorted x (sorted_in (stocked e) held) es (Contains-sorted_in (stocked e) x held has)
-
-there-sorted : (e : Slot Record) (held : List Stocked) (es : List (Slot Record)) → Contains es e → Contains (sorted_with held es) (stocked e)
-there-sorted e held [] has = absurd (omega (arith, has.1))
-there-sorted e held (y ∷ ys) has = elim (Contains-cases y e ys has) [
-  | inl same ↦ Contains-sorted (stocked e) (sorted_in (stocked y) held) ys (subst (λ z. Contains (sorted_in (stocked z) held) (stocked e)) (sym same) (there-sorted_in (stocked e) held))
-  | inr later ↦ there-sorted e (sorted_in (stocked y) held) ys later
 ]
 
 -- the entries are apart from one another and from what is held
@@ -95,12 +50,6 @@ rising-sorted held (e ∷ es) rising first once apart =
     (All-sorted_in (λ (x : Stocked). times_in x.lid es ≡ 0) (stocked e) held none still)
 
 -- the maintainers that are read
-
-pub All-read_by : (P : Slot Record → Type 0) (k n : ℕ) (ms : List (MaintainerState Record)) → All (λ m. All P m.entries) ms → All P (read_by k n ms)
-All-read_by P k n [] all = All-nil P
-All-read_by P k n (m ∷ ms) all = All-append P (cond (eqb (m.number % n) k) m.entries []) (read_by k n ms)
-    (cond_both (eqb (m.number % n) k) m.entries [] (All P) (λ _. All-head (λ (x : MaintainerState Record). All P x.entries) m ms all) (λ _. All-nil P))
-    (All-read_by P k n ms (All-tail (λ (x : MaintainerState Record). All P x.entries) m ms all))
 
 times-read_by : (p k n : ℕ) (ms : List (MaintainerState Record)) → times_in p (read_by k n ms) ≤ filled p ms
 times-read_by p k n [] = omega arith

@@ -27,7 +27,7 @@ use Rattle.stage_world.specs.Whole.{IsLogged, IsTold, StandsFor, datacentre_at, 
 use Rattle.stage_world.proofs.FilledLemmas.{one_at_most}
 use Rattle.stage_turns.specs.Lent.{maintainers_seen}
 use Rattle.stage_turns.specs.Told.{IsToldBy, MayLook, MayTell, told_by}
-use Rattle.stage_turns.proofs.StockLemmas.{All-read_by, All-sorted, read_by}
+use Rattle.stage_world.proofs.StockLemmas.{All-read_by, All-sorted, read_by}
 
 -- a valid record has a spelling
 

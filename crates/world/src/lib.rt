@@ -3,7 +3,8 @@
 //! The model is the stage world: the datacentres as plain data, and each link as the list of its messages. The theorem for
 //! the layer above: whatever turns are taken, the events that are written are those of the stage world's turns, with one
 //! line for each of them, so they are a run of the log on the script's workload, and the stages stand for the world that it
-//! leaves.
+//! leaves. `replay` takes the script's steps and then the turns of settling, and that run is finished: every command is
+//! answered, and every log has every record.
 #![tactic(auto)]
 
 mod calls;

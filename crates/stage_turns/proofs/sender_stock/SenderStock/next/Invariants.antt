@@ -1,6 +1,7 @@
 use Rattle.std.proofs.Common.{ltb, take}
 use Rattle.std.specs.Option.{option_copied}
-use Rattle.stage_turns.proofs.StockLemmas.{IsNearest, read_by}
+use Rattle.stage_world.proofs.StockLemmas.{read_by}
+use Rattle.stage_turns.proofs.StockLemmas.{IsNearest}
 use Rattle.stage_turns.proofs.sender_stock.SenderStock.next.Given as goal
 
 abbrev pub invariant-loop-maintainer : goal.invariant-loop-maintainer

@@ -1,7 +1,8 @@
 use Rattle.std.proofs.Common.{take}
 use Rattle.std.specs.Option.{option_copied}
 use Rattle.sender_receiver.specs.Choosing.{is_new_above}
-use Rattle.stage_turns.proofs.StockLemmas.{IsNearest, read_by}
+use Rattle.stage_world.proofs.StockLemmas.{read_by}
+use Rattle.stage_turns.proofs.StockLemmas.{IsNearest}
 use Rattle.stage_turns.proofs.sender_stock.SenderStock.next_news.Given as goal
 
 abbrev pub invariant-loop-maintainer : goal.invariant-loop-maintainer
