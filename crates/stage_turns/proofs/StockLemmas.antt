@@ -15,8 +15,8 @@ use Rattle.maintainer.proofs.CountLemmas.{rising-tail}
 use Rattle.sender_receiver.specs.Stocks.{Stocked, IsRisingFrom, record_at}
 use Rattle.stage_world.specs.Stages.{filled}
 use Rattle.stage_world.specs.MoreTurns.{sorted_in, stock_of, stocked}
-use Rattle.stage_world.proofs.ListLemmas.{Contains-head, Contains-tail}
-use Rattle.stage_world.proofs.StockLemmas.{read_by, sorted_with, All-sorted_in, there-sorted, All-read_by}
+use Rattle.stage_world.proofs.ListLemmas.{Contains-head, Contains-tail, Contains-cases}
+use Rattle.stage_world.proofs.StockLemmas.{read_by, sorted_with, All-sorted_in, All-sorted, there-sorted, All-read_by}
 use Rattle.stage_turns.specs.Told.{AreApart, nearer_of}
 
 -- an entry in its place
