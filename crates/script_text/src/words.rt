@@ -1,4 +1,4 @@
-ghost use Rattle.std.specs.Prelude.{◌≡◌, ℕ, ◌+◌, ◌-◌, ◌<◌, ◌≤◌, List, [], ◌∷◌, length, slice_index, MatchOption, IsTrue, true, false};
+ghost use Rattle.std.specs.Prelude.{◌≡◌, ℕ, ◌+◌, ◌-◌, ◌<◌, ◌≤◌, List, [], ◌∷◌, length, slice_index, IfOk, MatchOption, IsTrue, true, false};
 ghost use Rattle.std.specs.List.{position, list_all, count_by};
 ghost use Rattle.script_text.specs.Words.{words, is_blank, is_digit, is_number, number_of, is_datacentre};
 ghost use Rattle.script_text.specs.Reading.{Gives, Reads, number_in, number_at, number_below_at, datacentre_at, other_datacentre_at, body_at, body_in, names_in, name_in, name_at};
@@ -136,7 +136,8 @@ impl<'a> Words<'a> {
     /// All words that are left as names.
     #[tactic(auto, unfolding(crate::specs::Reading::names_in))]
     pub fn names(&mut self, alloc: Global) -> Result<Seq<Name>, LineFault>
-        ensures { Gives (λ names. names) result (names_in self.old) }
+        ensures names { Gives (λ names. names) result (names_in self.old) }
+        ensures left { IfOk result (λ _. self.new ≡ []) }
     {
         let mut names = Seq::new(alloc);
         while let Some(word) = self.next_word() {
