@@ -3,12 +3,10 @@ use Rattle.std.proofs.Common.{◌≡◌, ◌+◌, ◌*◌, ◌<◌, ◌^◌, ℕ
 use Rattle.std.specs.Prelude.{nat_lt, ◌==◌}
 use Rattle.std.proofs.lemmas.List.Elements.{All-nil, All-cons, All-head, All-tail}
 use Rattle.rand_pcg.specs.Lcg.{Lcg}
-use Rattle.abstract_log.specs.declared.command.Command.{Command}
-use Rattle.abstract_log.specs.declared.command.Command.TheVariants.{Append, Put, Get, Tx, Read, Last}
+use Rattle.abstract_log.specs.declared.command.Command.TheVariants.{Tx}
 use Rattle.abstract_log.specs.declared.command.SessionPlan.{SessionPlan}
 use Rattle.abstract_log.specs.Fits.{FitsCommand, FitsPlan, commands_of}
 use Rattle.cz_base.specs.Text.{IsName}
-use Rattle.script_text.specs.Spelled.{IsBuiltCommand}
 use Rattle.script_generator.specs.Draws.{draw}
 use Rattle.script_generator.specs.Generated.{key, tag, command_by, command, plan}
 use Rattle.script_generator.proofs.DrawLemmas.{draw_below, either_way, length-many, All-many}
@@ -46,21 +44,12 @@ command_fits : (s k : ℕ) (g : Lcg) → s < 2 ^ 32 → k < 2 ^ 32 → FitsComma
 unfolding command
 command_fits s k g small few = command_by_fits s k (draw 10 g).0 (draw 10 g).1 small few
 
-command_built : (command : Command) → IsBuiltCommand command
-command_built (Append tags body) = tt
-command_built (Put name body) = tt
-command_built (Get name) = tt
-command_built (Tx names) = tt
-command_built (Read lid) = tt
-command_built (Last name n) = tt
-
 -- Sessions.
 
 -- a session with 100 commands at one of three datacentres
 pub record IsPlan (made : SessionPlan) : Type 0 where
   pub fits : FitsPlan 3 made
   pub commands : length made.commands ≡ 100
-  pub built : All IsBuiltCommand made.commands
 
 pub plan_fits : (s : ℕ) (g : Lcg) → s < 12 → IsPlan (plan s g).0
 unfolding plan
@@ -70,7 +59,6 @@ plan_fits s g small = record {
     commands = All-many FitsCommand (λ n. command s (n + 1)) 100 (λ n h below. command_fits s (n + 1) h (omega arith) (omega arith)) g;
   };
   commands = length-many (λ n. command s (n + 1)) 100 g;
-  built = All-many IsBuiltCommand (λ n. command s (n + 1)) 100 (λ n h below. command_built (command s (n + 1) h).0) g;
 }
 
 pub commands_in_all : (plans : List SessionPlan) → All IsPlan plans → commands_of plans ≡ length plans * 100

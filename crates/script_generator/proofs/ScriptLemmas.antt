@@ -9,7 +9,7 @@ use Rattle.abstract_log.specs.declared.script.Sizes.{Sizes}
 use Rattle.abstract_log.specs.declared.script.Step.{Step}
 use Rattle.abstract_log.specs.Commands.{no_plan}
 use Rattle.abstract_log.specs.Fits.{FitsPlan, FitsScript, FitsSizes}
-use Rattle.script_text.specs.Spelled.{IsBuiltCommand, IsBuiltStep}
+use Rattle.script_text.specs.Spelled.{IsBuiltStep}
 use Rattle.script_text.specs.Steps.{FitsStep}
 use Rattle.script_generator.specs.Draws.{many, seeded}
 use Rattle.script_generator.specs.Generated.{plan, step, sizes, script, generated}
@@ -79,7 +79,6 @@ all_made g h =
 pub record IsGood (script : Script) : Type 0 where
   pub fits : FitsScript script
   pub steps : All (FitsStep script.workload) script.steps
-  pub commands : All (λ plan. All IsBuiltCommand plan.commands) script.workload.sessions
   pub turns : All IsBuiltStep script.steps
 
 pub good : (plans : List SessionPlan) (turns : List Step) → AreMade plans turns
@@ -87,7 +86,6 @@ pub good : (plans : List SessionPlan) (turns : List Step) → AreMade plans turn
 good plans turns made = let load : Workload = record { dcs = 3; sessions = plans } in record {
   fits = made_fit plans turns made;
   steps = All-weaker (IsTurn load) (FitsStep load) (λ t is. is.fits) turns made.every;
-  commands = All-weaker IsPlan (λ p. All IsBuiltCommand p.commands) (λ p is. is.built) plans made.each;
   turns = All-weaker (IsTurn load) IsBuiltStep (λ t is. is.built) turns made.every;
 }
 

@@ -1,6 +1,6 @@
 ghost use Rattle.std.specs.Prelude.{◌≡◌, All, IfOk};
 ghost use Rattle.abstract_log.specs.Fits.{FitsScript};
-ghost use Rattle.script_text.specs.Spelled.{IsBuiltCommand, IsBuiltStep};
+ghost use Rattle.script_text.specs.Spelled.{IsBuiltStep};
 ghost use Rattle.script_text.specs.Steps.{FitsStep};
 ghost use Rattle.script_generator.specs.Draws.{many};
 ghost use Rattle.script_generator.specs.Generated.{generated, plan, step};
@@ -42,7 +42,7 @@ pub fn generate(alloc: Global, seed: u64) -> Result<Script, NoMemory>
     ensures steps { IfOk result (λ script. All (FitsStep script.workload) script.steps) }
 
     // It has no steps that add members.
-    ensures built { IfOk result (λ script. All (λ plan. All IsBuiltCommand plan.commands) script.workload.sessions × All IsBuiltStep script.steps) }
+    ensures built { IfOk result (λ script. All IsBuiltStep script.steps) }
 {
     let mut draws = Draws::new(seed);
     let sessions = sessions(alloc, &mut draws)?;

@@ -38,13 +38,13 @@ use Rattle.script_text.specs.Arguments.{no_arguments, argument_at, arguments_at,
 use Rattle.script_text.specs.Keywords.{text_of, turn_text, keyword_of, stands, is_built, turn_is_built, turn_arguments, least_words, most_words, is_stages, is_sessions, is_ended}
 use Rattle.script_text.specs.Meaning.{start, chariots_line, datacentres_line, round_line, sizes_at, stages_line, session_line, with_command, append_line, put_line, get_line, tx_line, read_line, last_line, with_step, turn_line, meaning, keyword_after, words_after, is_passed_over, line_after, is_given, script_said, told, next_number, script_from, script_of}
 use Rattle.abstract_log.specs.Fits.{IsSize, FitsSizes, FitsCommand, FitsPlan, commands_of}
-use Rattle.script_text.specs.Spelled.{letter, command_words, plan_lines, stages_words, first_words, datacentres_words, round_words, before_steps, turn_words, steps_words, end_words, said_words, IsBuiltCommand, IsBuiltStep, AreGivenOnce, FitsStages, IsWritten}
+use Rattle.script_text.specs.Spelled.{letter, command_words, plan_lines, stages_words, first_words, datacentres_words, round_words, before_steps, turn_words, steps_words, end_words, said_words, IsBuiltStep, AreGivenOnce, FitsStages, IsWritten}
 use Rattle.script_text.proofs.MeaningLemmas.{with_command-last}
 use Rattle.script_text.specs.Steps.{FitsStep}
 use Rattle.script_text.proofs.Going.{okay, or_false}
 use Rattle.script_text.proofs.Spelling.{own}
 use Rattle.script_text.proofs.TurnLemmas.{argument_word, IsArgument, with_argument, Write, load_of, and_step}
-use Rattle.script_text.proofs.Sound.{neither_true, eq-sym, is_given-push, IsBuiltPlan}
+use Rattle.script_text.proofs.Sound.{neither_true, eq-sym, is_given-push}
 use Rattle.script_text.proofs.Laid.{IsLine}
 
 -- Tests that pass.
@@ -398,8 +398,8 @@ pub record Says (said : Progress) (c : Command) : Type 0 where
   pub full : list_any is_empty_word (command_words c) ≡ false
   pub means : words_after said (command_words c) ≡ with_command said c
 
-command_says : (said : Progress) (c : Command) → said.section ≡ section.Sessions → FitsCommand c → IsBuiltCommand c → Says said c
-command_says said (command.Append tags body) here fits built =
+command_says : (said : Progress) (c : Command) → said.section ≡ section.Sessions → FitsCommand c → Says said c
+command_says said (command.Append tags body) here fits =
     let least : nat_lt (length ((61 ∷ body) ∷ tags)) 1 ≡ false = grind (arith, nat_tests) in
     let most : nat_lt 9 (length ((61 ∷ body) ∷ tags)) ≡ false = grind (arith, nat_tests, fits.0) in
     record {
@@ -407,17 +407,17 @@ command_says said (command.Append tags body) here fits built =
       means = word_reads said (codes "append") ((61 ∷ body) ∷ tags) (CommandLine Append) append_word (ap (λ (s : Section). is_sessions s) here) refl (neither_true (nat_lt (length ((61 ∷ body) ∷ tags)) 1) (nat_lt 9 (length ((61 ∷ body) ∷ tags))) least most)
           ∙ append_means said body tags fits.1.1 fits.1.0;
     }
-command_says said (command.Put key body) here fits built = record {
+command_says said (command.Put key body) here fits = record {
   full = full (codes "put") (key ∷ (61 ∷ body) ∷ []) (omega arith) (full key ((61 ∷ body) ∷ []) (omega (arith, fits.0.not_empty)) (full (61 ∷ body) [] (omega arith) refl));
   means = word_reads said (codes "put") (key ∷ (61 ∷ body) ∷ []) (CommandLine Put) put_word (ap (λ (s : Section). is_sessions s) here) refl refl
       ∙ put_means said key body fits.0 fits.1;
 }
-command_says said (command.Get key) here fits built = record {
+command_says said (command.Get key) here fits = record {
   full = full (codes "get") (key ∷ []) (omega arith) (full key [] (omega (arith, fits.not_empty)) refl);
   means = word_reads said (codes "get") (key ∷ []) (CommandLine Get) get_word (ap (λ (s : Section). is_sessions s) here) refl refl
       ∙ get_means said key fits;
 }
-command_says said (command.Tx keys) here fits built =
+command_says said (command.Tx keys) here fits =
     let least : nat_lt (length keys) 1 ≡ false = grind (arith, nat_tests, fits.0) in
     let most : nat_lt 16 (length keys) ≡ false = grind (arith, nat_tests, fits.1.0) in
     record {
@@ -425,12 +425,12 @@ command_says said (command.Tx keys) here fits built =
       means = word_reads said (codes "tx") keys (CommandLine Tx) tx_word (ap (λ (s : Section). is_sessions s) here) refl (neither_true (nat_lt (length keys) 1) (nat_lt 16 (length keys)) least most)
           ∙ tx_means said keys fits.1.1;
     }
-command_says said (command.Read lid) here fits built = record {
+command_says said (command.Read lid) here fits = record {
   full = full (codes "read") (decimal lid ∷ []) (omega arith) (full_decimal lid [] (omega (arith, fits.1)) refl);
   means = word_reads said (codes "read") (decimal lid ∷ []) (CommandLine Read) read_word (ap (λ (s : Section). is_sessions s) here) refl refl
       ∙ read_means said lid fits.0 (omega (arith, fits.1));
 }
-command_says said (command.Last tag n) here fits built = record {
+command_says said (command.Last tag n) here fits = record {
   full = full (codes "last") (tag ∷ decimal n ∷ []) (omega arith) (full tag (decimal n ∷ []) (omega (arith, fits.0.not_empty)) (full_decimal n [] (omega (arith, fits.1.1)) refl));
   means = word_reads said (codes "last") (tag ∷ decimal n ∷ []) (CommandLine Last) last_word (ap (λ (s : Section). is_sessions s) here) refl refl
       ∙ last_means said tag n fits.0 fits.1.0 fits.1.1;
@@ -439,11 +439,11 @@ command_says said (command.Last tag n) here fits built = record {
 abbrev with_plan : List SessionPlan → ℕ → List Command → List SessionPlan
 with_plan front home commands = front ++ record { home = home; commands = commands } ∷ []
 
-command_takes : (dcs round : ℕ) (stages : List StagesOf) (front : List SessionPlan) (home : ℕ) (done : List Command) (count : ℕ) (c : Command) → FitsCommand c → IsBuiltCommand c → count < 16384
+command_takes : (dcs round : ℕ) (stages : List StagesOf) (front : List SessionPlan) (home : ℕ) (done : List Command) (count : ℕ) (c : Command) → FitsCommand c → count < 16384
     → Takes (said_at section.Sessions dcs round stages (with_plan front home done) count) (command_words c) (said_at section.Sessions dcs round stages (with_plan front home (done ++ c ∷ [])) (count + 1))
-command_takes dcs round stages front home done count c fits built few =
+command_takes dcs round stages front home done count c fits few =
     let said : Progress = said_at section.Sessions dcs round stages (with_plan front home done) count in
-    let says : Says said c = command_says said c refl fits built in
+    let says : Says said c = command_says said c refl fits in
     record {
       full = says.full;
       going = refl;
@@ -461,17 +461,17 @@ leads_append said mid after [] back first second = subst (λ (p : Progress). Lea
 leads_append said mid after (line ∷ more) back first second = (first.0, (first.1.0, leads_append first.0 mid after more back first.1.1 second))
 
 commands_lead : (dcs round : ℕ) (stages : List StagesOf) (front : List SessionPlan) (home : ℕ) (done : List Command) (count : ℕ) (left all : List Command) (total : ℕ)
-    → All FitsCommand left → All IsBuiltCommand left → total ≤ 16384 → done ++ left ≡ all → count + length left ≡ total
+    → All FitsCommand left → total ≤ 16384 → done ++ left ≡ all → count + length left ≡ total
     → Leads (said_at section.Sessions dcs round stages (with_plan front home done) count) (map command_words left) (said_at section.Sessions dcs round stages (with_plan front home all) total)
-commands_lead dcs round stages front home done count [] all total fits built few same counted =
+commands_lead dcs round stages front home done count [] all total fits few same counted =
     let whole : done ≡ all = sym (append-nil done) ∙ same in
     let full_count : count ≡ total = omega (arith, counted) in
     ap₂ (λ (cs : List Command) (n : ℕ). said_at section.Sessions dcs round stages (with_plan front home cs) n) whole full_count
-commands_lead dcs round stages front home done count (c ∷ more) all total fits built few same counted = (
+commands_lead dcs round stages front home done count (c ∷ more) all total fits few same counted = (
   said_at section.Sessions dcs round stages (with_plan front home (done ++ c ∷ [])) (count + 1),
   (
-    command_takes dcs round stages front home done count c (All-head FitsCommand c more fits) (All-head IsBuiltCommand c more built) (omega (arith, counted, few)),
-    commands_lead dcs round stages front home (done ++ c ∷ []) (count + 1) more all total (All-tail FitsCommand c more fits) (All-tail IsBuiltCommand c more built) few
+    command_takes dcs round stages front home done count c (All-head FitsCommand c more fits) (omega (arith, counted, few)),
+    commands_lead dcs round stages front home (done ++ c ∷ []) (count + 1) more all total (All-tail FitsCommand c more fits) few
         (append_assoc done (c ∷ []) more ∙ same) (omega (arith, counted)),
   ),
 )
@@ -849,11 +849,11 @@ steps_lead dcs round stages plans count done (t ∷ more) all few room fits buil
     )
 
 plans_lead : (here : Section) (dcs round : ℕ) (stages : List StagesOf) (front : List SessionPlan) (count : ℕ) (left all : List SessionPlan) (total : ℕ) (steps : List Step)
-    → (is_stages here || is_sessions here) ≡ true → dcs ≤ 8 → All (FitsPlan dcs) left → All IsBuiltPlan left → length front + length left ≤ 64 → total ≤ 16384
+    → (is_stages here || is_sessions here) ≡ true → dcs ≤ 8 → All (FitsPlan dcs) left → length front + length left ≤ 64 → total ≤ 16384
     → front ++ left ≡ all → count + commands_of left ≡ total
     → All (FitsStep (record { dcs = dcs; sessions = all })) steps → All IsBuiltStep steps → length steps ≤ 65536
     → Leads (said_at here dcs round stages front count) (flat_map plan_lines left ++ closing steps) (ended_at dcs round stages all total steps)
-plans_lead here dcs round stages front count [] all total steps place few fits built room small same counted steps_fit turns short =
+plans_lead here dcs round stages front count [] all total steps place few fits room small same counted steps_fit turns short =
     let whole : front ≡ all = sym (append-nil front) ∙ same in
     let full_count : count ≡ total = omega (arith, counted) in
     let some : length all ≤ 64 = omega (arith, room, ap (λ (ps : List SessionPlan). length ps) whole) in
@@ -863,12 +863,12 @@ plans_lead here dcs round stages front count [] all total steps place few fits b
       (steps_takes here dcs round stages all total place, steps_lead dcs round stages all total [] steps steps few some steps_fit turns (omega (arith, short)) refl),
     ) in
     subst (λ (p : Progress). Leads p (closing steps) (ended_at dcs round stages all total steps)) (sym (ap₂ (λ (ps : List SessionPlan) (n : ℕ). said_at here dcs round stages ps n) whole full_count)) led
-plans_lead here dcs round stages front count (plan ∷ more) all total steps place few fits built room small same counted steps_fit turns short =
+plans_lead here dcs round stages front count (plan ∷ more) all total steps place few fits room small same counted steps_fit turns short =
     let first = All-head (FitsPlan dcs) plan more fits in
     let lead = commands_lead dcs round stages front plan.home [] count plan.commands plan.commands (count + length plan.commands)
-    first.commands (All-head IsBuiltPlan plan more built) (omega (arith, counted, small)) refl refl in
+    first.commands (omega (arith, counted, small)) refl refl in
     let rest = plans_lead section.Sessions dcs round stages (front ++ plan ∷ []) (count + length plan.commands) more all total steps refl few
-    (All-tail (FitsPlan dcs) plan more fits) (All-tail IsBuiltPlan plan more built) (omega (arith, length-append front (plan ∷ []), room)) small
+    (All-tail (FitsPlan dcs) plan more fits) (omega (arith, length-append front (plan ∷ []), room)) small
     (append_assoc front (plan ∷ []) more ∙ same) (omega (arith, counted)) steps_fit turns short in
     let next : Progress = said_at section.Sessions dcs round stages (with_plan front plan.home []) count in
     let end : Progress = ended_at dcs round stages all total steps in
@@ -907,14 +907,14 @@ stages_lead dcs round front (given ∷ more) all few built once new same = (
 
 -- all lines of a script, one after another
 all_lead : (dcs round : ℕ) (stages : List StagesOf) (plans : List SessionPlan) (steps : List Step) → 1 ≤ dcs → dcs ≤ 8 → 1 ≤ round → round ≤ 1024 → All (FitsStages dcs) stages → AreGivenOnce stages
-    → All (FitsPlan dcs) plans → All IsBuiltPlan plans → length plans ≤ 64 → commands_of plans ≤ 16384 → All (FitsStep (record { dcs = dcs; sessions = plans })) steps → All IsBuiltStep steps → length steps ≤ 65536
+    → All (FitsPlan dcs) plans → length plans ≤ 64 → commands_of plans ≤ 16384 → All (FitsStep (record { dcs = dcs; sessions = plans })) steps → All IsBuiltStep steps → length steps ≤ 65536
     → Leads start (before_steps dcs round stages plans ++ closing steps) (ended_at dcs round stages plans (commands_of plans) steps)
 unfolding before_steps
-all_lead dcs round stages plans steps some few low high built once fits commands room small steps_fit turns short =
+all_lead dcs round stages plans steps some few low high built once fits room small steps_fit turns short =
     let begun : Progress = said_at section.Stages dcs round [] [] 0 in
     let end : Progress = ended_at dcs round stages plans (commands_of plans) steps in
     let given = stages_lead dcs round [] stages stages few built once (λ k d within. refl) refl in
-    let sessions = plans_lead section.Stages dcs round stages [] 0 plans plans (commands_of plans) steps refl few fits commands (omega (arith, room)) small refl (omega arith) steps_fit turns short in
+    let sessions = plans_lead section.Stages dcs round stages [] 0 plans plans (commands_of plans) steps refl few fits (omega (arith, room)) small refl (omega arith) steps_fit turns short in
     let both = leads_append begun (said_at section.Stages dcs round stages [] 0) end (map stages_words stages) (flat_map plan_lines plans ++ closing steps) given sessions in (
       said_at section.Datacentres 0 0 [] [] 0,
       (
@@ -978,7 +978,7 @@ what_is_written_is_read script lines written =
     let limits = written.fits.limits in
     let end : Progress = ended_at dcs script.round stages plans (commands_of plans) script.steps in
     let lead = all_lead dcs script.round stages plans script.steps limits.workload.some limits.workload.few written.fits.round.0 written.fits.round.1 written.stages written.once
-    limits.plans written.commands limits.sessions limits.commands written.steps written.turns written.fits.steps in
+    limits.plans limits.sessions limits.commands written.steps written.turns written.fits.steps in
     let leads = subst (λ (ls : List (List (List ℕ))). Leads start ls end) (sym written.spells.written) lead in
     let same : script_said end ≡ script = ap (λ (sizes : List Sizes). record script { sizes = sizes }) (sym written.spells.sizes) in
     lines_read start 1 lines end written.bytes leads refl ∙ ap (λ (s : Script). Ok s) same

@@ -30,7 +30,7 @@ use Rattle.script_text.specs.Words.{words, is_line_byte, is_empty_word}
 use Rattle.script_text.specs.Reading.{number_at, datacentre_at, body_at, name_at, names_in}
 use Rattle.script_text.specs.Keywords.{text_of, turn_text, keywords, keyword_of, stands, is_built, turn_arguments, least_words, most_words, is_start, is_datacentres, is_round, is_stages, is_sessions, is_steps, is_ended}
 use Rattle.script_text.specs.Meaning.{start, chariots_line, datacentres_line, round_line, sizes_at, stages_line, session_line, onto_last, with_command, append_line, put_line, get_line, tx_line, read_line, last_line, turn_line, command_meaning, meaning, keyword_after, words_after, is_passed_over, line_after, is_given, script_said, told, next_number, script_from, script_of}
-use Rattle.script_text.specs.Spelled.{letter, command_words, plan_lines, stages_words, first_words, datacentres_words, round_words, before_steps, turn_words, steps_words, end_words, said_words, Spells, IsBuiltCommand, IsBuiltStep, IsWritten}
+use Rattle.script_text.specs.Spelled.{letter, command_words, plan_lines, stages_words, first_words, datacentres_words, round_words, before_steps, turn_words, steps_words, end_words, said_words, Spells, IsBuiltStep, IsWritten}
 use Rattle.script_text.specs.Steps.{FitsStep}
 use Rattle.abstract_log.specs.Fits.{FitsScript}
 use Rattle.script_text.proofs.Sound.{IsSound, start-sound, line-sound, said-fits, rank-ended, rank-upto}
@@ -580,7 +580,6 @@ script_of-written lines script same =
       once = ends.sound.once;
       fits = said-fits ends.at_end ends.sound (omega (arith, late));
       steps = ends.sound.steps;
-      commands = ends.sound.built;
       turns = ends.sound.turns;
     } in
     subst (λ (s : Script). IsWritten s lines) ends.is written
@@ -605,10 +604,10 @@ pub all-steps : (lines : List (List ℕ)) (result : Result Script ScriptFault) �
 all-steps lines (Ok script) same = (script_of-written lines script same).steps
 all-steps lines (Err fault) same = tt
 
--- a script that is read yet
-abbrev IsBuiltScript : Script → Type 0
-IsBuiltScript script = All (λ plan. All IsBuiltCommand plan.commands) script.workload.sessions × All IsBuiltStep script.steps
+-- its steps are all read yet
+abbrev StepsBuilt : Script → Type 0
+StepsBuilt script = All IsBuiltStep script.steps
 
-pub all-built : (lines : List (List ℕ)) (result : Result Script ScriptFault) → IfOk result (λ script. script_of lines ≡ Ok script) → IfOk result IsBuiltScript
-all-built lines (Ok script) same = let written = script_of-written lines script same in (written.commands, written.turns)
+pub all-built : (lines : List (List ℕ)) (result : Result Script ScriptFault) → IfOk result (λ script. script_of lines ≡ Ok script) → IfOk result StepsBuilt
+all-built lines (Ok script) same = (script_of-written lines script same).turns
 all-built lines (Err fault) same = tt

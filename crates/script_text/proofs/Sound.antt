@@ -26,7 +26,7 @@ use Rattle.script_text.specs.Reading.{number_in, number_at, datacentre_at, body_
 use Rattle.script_text.specs.Keywords.{keyword_of, stands, is_built, turn_arguments, least_words, most_words, is_start, is_datacentres, is_round, is_stages, is_sessions, is_steps, is_ended}
 use Rattle.script_text.specs.Meaning.{start, chariots_line, datacentres_line, round_line, sizes_at, stages_line, session_line, onto_last, with_command, append_line, put_line, get_line, tx_line, read_line, last_line, turn_line, command_meaning, meaning, keyword_after, words_after, is_passed_over, line_after, is_given, sizes_found, sizes_given, sizes_upto, script_said}
 use Rattle.abstract_log.specs.Fits.{IsSize, FitsSizes, FitsCommand, FitsPlan, commands_of, FitsScript}
-use Rattle.script_text.specs.Spelled.{IsBuiltCommand, FitsStages, IsBuiltStep, AreGivenOnce}
+use Rattle.script_text.specs.Spelled.{FitsStages, IsBuiltStep, AreGivenOnce}
 use Rattle.script_text.specs.Steps.{FitsStep}
 use Rattle.script_text.proofs.Going.{okay, okay-same, bind_ok, guard_ok, pass_ok, and_both, chosen, not_false, or_false, none_is}
 use Rattle.script_text.proofs.Spelling.{datacentre_takes}
@@ -227,10 +227,6 @@ sizes_take left x same =
 
 -- What has been said keeps the ranges, and is built.
 
--- all commands of a session are read yet
-abbrev pub IsBuiltPlan : SessionPlan → Type 0
-IsBuiltPlan plan = All IsBuiltCommand plan.commands
-
 pub record IsSound (said : Progress) : Type 0 where
   pub dcs : 2 ≤ rank said.section → (1 ≤ said.dcs) × (said.dcs ≤ 8)
   pub round : 3 ≤ rank said.section → (1 ≤ said.round) × (said.round ≤ 1024)
@@ -242,7 +238,6 @@ pub record IsSound (said : Progress) : Type 0 where
   pub plans : All (FitsPlan said.dcs) said.sessions
   pub counted : said.commands ≡ commands_of said.sessions
   pub within : said.commands ≤ 16384
-  pub built : All IsBuiltPlan said.sessions
   pub idle : rank said.section ≤ 4 → said.steps ≡ []
   pub steps : All (FitsStep (load_of said)) said.steps
   pub turns : All IsBuiltStep said.steps
@@ -260,7 +255,6 @@ start-sound = record {
   plans = All-nil (FitsPlan 0);
   counted = refl;
   within = omega arith;
-  built = All-nil IsBuiltPlan;
   idle = λ h. refl;
   steps = All-nil (FitsStep (load_of start));
   turns = All-nil IsBuiltStep;
@@ -316,7 +310,6 @@ chariots-sound said after left here sound same =
       plans = sound.plans;
       counted = sound.counted;
       within = sound.within;
-      built = sound.built;
       idle = λ h. sound.idle (omega arith);
       steps = sound.steps;
       turns = sound.turns;
@@ -340,7 +333,6 @@ datacentres-sound said after left here sound same =
       plans = none_fits read.0.0 said.sessions (sound.begun (omega arith));
       counted = sound.counted;
       within = sound.within;
-      built = sound.built;
       idle = λ h. sound.idle (omega arith);
       steps = none_steps (load_of (record said { dcs = read.0.0; section = section.Round })) said.steps (sound.idle (omega arith));
       turns = sound.turns;
@@ -364,7 +356,6 @@ round-sound said after left here sound same =
       plans = sound.plans;
       counted = sound.counted;
       within = sound.within;
-      built = sound.built;
       idle = λ h. sound.idle (omega arith);
       steps = sound.steps;
       turns = sound.turns;
@@ -390,7 +381,6 @@ stages-sound said after left here sound same =
       plans = sound.plans;
       counted = sound.counted;
       within = sound.within;
-      built = sound.built;
       idle = λ h. sound.idle (omega arith);
       steps = sound.steps;
       turns = sound.turns;
@@ -421,7 +411,6 @@ session-sound said after left here early sound same =
       plans = All-push (FitsPlan said.dcs) said.sessions plan sound.plans (record { home = datacentre_takes said.dcs left home.0 home.1.0; commands = All-nil FitsCommand });
       counted = sound.counted ∙ sym (commands_of-push said.sessions home.0.0);
       within = sound.within;
-      built = All-push IsBuiltPlan said.sessions plan sound.built (All-nil IsBuiltCommand);
       idle = λ h. sound.idle early;
       steps = none_steps (load_of (record said { sessions = said.sessions ++ plan ∷ []; section = section.Sessions })) said.steps (sound.idle early);
       turns = sound.turns;
@@ -438,15 +427,6 @@ onto_last-fits dcs (plan ∷ next ∷ more) c fits all =
     All-cons (FitsPlan dcs) plan (onto_last (next ∷ more) c) (All-head (FitsPlan dcs) plan (next ∷ more) all)
     (onto_last-fits dcs (next ∷ more) c fits (All-tail (FitsPlan dcs) plan (next ∷ more) all))
 
-onto_last-built : (plans : List SessionPlan) (c : Command) → IsBuiltCommand c → All IsBuiltPlan plans → All IsBuiltPlan (onto_last plans c)
-onto_last-built [] c now all = All-nil IsBuiltPlan
-onto_last-built (plan ∷ []) c now all =
-    let more : SessionPlan = record { home = plan.home; commands = plan.commands ++ c ∷ [] } in
-    All-cons IsBuiltPlan more [] (All-push IsBuiltCommand plan.commands c (All-head IsBuiltPlan plan [] all) now) (All-nil IsBuiltPlan)
-onto_last-built (plan ∷ next ∷ more) c now all =
-    All-cons IsBuiltPlan plan (onto_last (next ∷ more) c) (All-head IsBuiltPlan plan (next ∷ more) all)
-    (onto_last-built (next ∷ more) c now (All-tail IsBuiltPlan plan (next ∷ more) all))
-
 length-onto_last : (plans : List SessionPlan) (c : Command) → length (onto_last plans c) ≡ length plans
 length-onto_last [] c = refl
 length-onto_last (plan ∷ []) c = refl
@@ -457,9 +437,9 @@ commands_of-onto_last [] c some = absurd (omega arith)
 commands_of-onto_last (plan ∷ []) c some = omega (arith, length-append plan.commands (c ∷ []))
 commands_of-onto_last (plan ∷ next ∷ more) c some = omega (arith, commands_of-onto_last (next ∷ more) c (omega arith))
 
-command-sound : (said after : Progress) (c : Command) → rank said.section ≡ 4 → FitsCommand c → IsBuiltCommand c → IsSound said → with_command said c ≡ Ok after → IsSound after
+command-sound : (said after : Progress) (c : Command) → rank said.section ≡ 4 → FitsCommand c → IsSound said → with_command said c ≡ Ok after → IsSound after
 unfolding with_command
-command-sound said after c here fits now sound same =
+command-sound said after c here fits sound same =
     let room = guard_ok (nat_le 16384 said.commands) _ _ after same in
     let begun = guard_ok (nat_eq (length said.sessions) 0) _ _ after room.1 in
     let is : record said { sessions = onto_last said.sessions c; commands = said.commands + 1 } ≡ after = cc (begun.1) in
@@ -476,7 +456,6 @@ command-sound said after c here fits now sound same =
       plans = onto_last-fits said.dcs said.sessions c fits sound.plans;
       counted = omega (arith, commands_of-onto_last said.sessions c some, sound.counted);
       within = omega (arith, fewer);
-      built = onto_last-built said.sessions c now sound.built;
       idle = λ h. sound.idle (omega arith);
       steps = none_steps (load_of (record said { sessions = onto_last said.sessions c; commands = said.commands + 1 })) said.steps (sound.idle (omega arith));
       turns = sound.turns;
@@ -491,7 +470,7 @@ append-sound said after left here few sound same =
     let taken = body_takes left body.0 body.1.0 in
     let named = names_take body.0.1 tags.0 tags.1.0 in
     let short : length tags.0 ≤ 8 = omega (arith, taken.shorter, ap (λ (ws : List (List ℕ)). length ws) named.0, few) in
-    command-sound said after (command.Append tags.0 body.0.0) here (short, (subst (λ (ws : List (List ℕ)). All IsName ws) named.0 named.1, taken.body)) tt sound tags.1.1
+    command-sound said after (command.Append tags.0 body.0.0) here (short, (subst (λ (ws : List (List ℕ)). All IsName ws) named.0 named.1, taken.body)) sound tags.1.1
 
 name_takes : (left : List (List ℕ)) (x : List ℕ × List (List ℕ)) → name_at left ≡ Ok x → IsName x.0
 unfolding name_at
@@ -508,13 +487,13 @@ unfolding put_line
 put-sound said after left here sound same =
     let key = bind_ok (name_at left) _ after same in
     let body = bind_ok (body_at key.0.1) _ after key.1.1 in
-    command-sound said after (command.Put key.0.0 body.0.0) here (name_takes left key.0 key.1.0, (body_takes key.0.1 body.0 body.1.0).body) tt sound body.1.1
+    command-sound said after (command.Put key.0.0 body.0.0) here (name_takes left key.0 key.1.0, (body_takes key.0.1 body.0 body.1.0).body) sound body.1.1
 
 get-sound : (said after : Progress) (left : List (List ℕ)) → rank said.section ≡ 4 → IsSound said → get_line said left ≡ Ok after → IsSound after
 unfolding get_line
 get-sound said after left here sound same =
     let key = bind_ok (name_at left) _ after same in
-    command-sound said after (command.Get key.0.0) here (name_takes left key.0 key.1.0) tt sound key.1.1
+    command-sound said after (command.Get key.0.0) here (name_takes left key.0 key.1.0) sound key.1.1
 
 tx-sound : (said after : Progress) (left : List (List ℕ)) → rank said.section ≡ 4 → 1 ≤ length left → length left ≤ 16 → IsSound said → tx_line said left ≡ Ok after → IsSound after
 unfolding tx_line
@@ -522,14 +501,14 @@ tx-sound said after left here some few sound same =
     let keys = bind_ok (names_in left) _ after same in
     let named = names_take left keys.0 keys.1.0 in
     let fits : FitsCommand (command.Tx left) = (some, (few, named.1)) in
-    command-sound said after (command.Tx keys.0) here (subst (λ (ws : List (List ℕ)). FitsCommand (command.Tx ws)) named.0 fits) tt sound keys.1.1
+    command-sound said after (command.Tx keys.0) here (subst (λ (ws : List (List ℕ)). FitsCommand (command.Tx ws)) named.0 fits) sound keys.1.1
 
 read-sound : (said after : Progress) (left : List (List ℕ)) → rank said.section ≡ 4 → IsSound said → read_line said left ≡ Ok after → IsSound after
 unfolding read_line
 read-sound said after left here sound same =
     let lid = bind_ok (number_at 1 4294967295 left) _ after same in
     let n = number_takes 1 4294967295 left lid.0 lid.1.0 in
-    command-sound said after (command.Read lid.0.0) here (n.least_is, omega (arith, n.most_is)) tt sound lid.1.1
+    command-sound said after (command.Read lid.0.0) here (n.least_is, omega (arith, n.most_is)) sound lid.1.1
 
 last-sound : (said after : Progress) (left : List (List ℕ)) → rank said.section ≡ 4 → IsSound said → last_line said left ≡ Ok after → IsSound after
 unfolding last_line
@@ -537,7 +516,7 @@ last-sound said after left here sound same =
     let tag = bind_ok (name_at left) _ after same in
     let count = bind_ok (number_at 1 64 tag.0.1) _ after tag.1.1 in
     let n = number_takes 1 64 tag.0.1 count.0 count.1.0 in
-    command-sound said after (command.Last tag.0.0 count.0.0) here (name_takes left tag.0 tag.1.0, (n.least_is, n.most_is)) tt sound count.1.1
+    command-sound said after (command.Last tag.0.0 count.0.0) here (name_takes left tag.0 tag.1.0, (n.least_is, n.most_is)) sound count.1.1
 
 command_line-sound : (said after : Progress) (word : CommandWord) (left : List (List ℕ)) → rank said.section ≡ 4 → least_words (CommandLine word) ≤ length left → length left ≤ most_words (CommandLine word) → IsSound said → command_meaning said word left ≡ Ok after → IsSound after
 command_line-sound said after Append left here some few sound same = append-sound said after left here few sound same
@@ -562,7 +541,6 @@ section-sound said after next here later sound same =
       plans = sound.plans;
       counted = sound.counted;
       within = sound.within;
-      built = sound.built;
       idle = λ h. absurd (omega arith);
       steps = sound.steps;
       turns = sound.turns;
@@ -583,7 +561,6 @@ turn-sound said after word left here few sound same =
       plans = sound.plans;
       counted = sound.counted;
       within = sound.within;
-      built = sound.built;
       idle = λ h. absurd (omega arith);
       steps = All-push (FitsStep (load_of said)) said.steps takes.step sound.steps takes.turn.fits;
       turns = All-push IsBuiltStep said.steps takes.step sound.turns takes.turn.built;

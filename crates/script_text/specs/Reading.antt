@@ -21,6 +21,11 @@ abbrev pub Gives : {X Y : Type 0} → (X → Y) → Result X LineFault → Resul
 Gives view (Ok x) read = read ≡ Ok (view x)
 Gives view (Err fault) read = Fails fault read
 
+-- what a call that takes no memory answered is just what the definition gives
+abbrev pub Reads : {X Y : Type 0} → (X → Y) → Result X Cause → Result Y Cause → Type 0
+Reads view (Ok x) read = read ≡ Ok (view x)
+Reads view (Err cause) read = read ≡ Err cause
+
 -- A word, and the words after it.
 abbrev pub number_in : ℕ → ℕ → List ℕ → Result ℕ Cause
 number_in least most word = if is_number word then (if nat_le least (number_of word) && nat_le (number_of word) most then Ok (number_of word) else Err OutOfRange) else Err BadNumber

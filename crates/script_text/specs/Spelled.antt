@@ -92,18 +92,7 @@ pub record Spells (script : Script) (lines : List (List ℕ)) : Type 0 where
   pub sizes : script.sizes ≡ sizes_upto stages script.workload.dcs
   pub written : said_words lines ≡ before_steps script.workload.dcs script.round stages script.workload.sessions ++ steps_words ∷ (map turn_words script.steps ++ end_words ∷ [])
 
--- What is read yet.
-
--- all commands
-abbrev pub IsBuiltCommand : Command → Type 0
-IsBuiltCommand (Append tags body) = Unit {0}
-IsBuiltCommand (Put key body) = Unit {0}
-IsBuiltCommand (Get key) = Unit {0}
-IsBuiltCommand (Tx keys) = Unit {0}
-IsBuiltCommand (Read lid) = Unit {0}
-IsBuiltCommand (Last tag n) = Unit {0}
-
--- all turns but those that add members
+-- what is read yet: all steps but those that add members
 abbrev pub IsBuiltStep : Step → Type 0
 IsBuiltStep (step.Client s) = Unit {0}
 IsBuiltStep (step.Flush d b) = Unit {0}
@@ -139,7 +128,7 @@ pub record FitsStages (dcs : ℕ) (given : Stages) : Type 0 where
   pub sizes : FitsSizes given.sizes
 
 -- The lines spell the script as it has to be written: each byte is one of a line, the sizes of a datacentre
--- are given at most once, all ranges are kept, and there are only lines that are read yet.
+-- are given at most once, all ranges are kept, and there are only steps that are read yet.
 pub record IsWritten (script : Script) (lines : List (List ℕ)) : Type 0 where
   pub spells : Spells script lines
   pub bytes : All (λ line. list_all is_line_byte line ≡ true) lines
@@ -147,5 +136,4 @@ pub record IsWritten (script : Script) (lines : List (List ℕ)) : Type 0 where
   pub once : AreGivenOnce spells.stages
   pub fits : FitsScript script
   pub steps : All (FitsStep script.workload) script.steps
-  pub commands : All (λ plan. All IsBuiltCommand plan.commands) script.workload.sessions
   pub turns : All IsBuiltStep script.steps

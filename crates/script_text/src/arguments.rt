@@ -1,8 +1,8 @@
 ghost use Rattle.std.specs.Prelude.{◌≡◌};
-ghost use Rattle.script_text.specs.Reading.{Gives};
+ghost use Rattle.script_text.specs.Reading.{Reads};
 ghost use Rattle.script_text.specs.Arguments.{no_arguments, argument_at, arguments_at, step_said};
 
-use crate::fault::{Cause, LineFault};
+use crate::fault::Cause;
 use crate::keyword::TurnWord;
 use crate::words::Words;
 use abstract_log::Step;
@@ -60,8 +60,8 @@ impl Arguments {
         dcs: u32,
         sessions: usize,
         words: &mut Words<'_>,
-    ) -> Result<Arguments, LineFault>
-        ensures { Gives (λ given. (given, words.new)) result (argument_at dcs sessions self kind words.old) }
+    ) -> Result<Arguments, Cause>
+        ensures { Reads (λ given. (given, words.new)) result (argument_at dcs sessions self kind words.old) }
     {
         let mut given = self;
         match kind {
@@ -84,8 +84,8 @@ pub fn read_arguments(
     dcs: u32,
     sessions: usize,
     words: &mut Words<'_>,
-) -> Result<Arguments, LineFault>
-    ensures { Gives (λ given. given) result (arguments_at dcs sessions no_arguments kinds.now words.old) }
+) -> Result<Arguments, Cause>
+    ensures { result ≡ arguments_at dcs sessions no_arguments kinds.now words.old }
 {
     let mut given = NO_ARGUMENTS;
     for kind in kinds {
@@ -95,8 +95,8 @@ pub fn read_arguments(
 }
 
 /// The step that a word says with its arguments.
-pub fn step_said(word: TurnWord, given: Arguments) -> Result<Step, LineFault>
-    ensures { Gives (λ step. step) result (step_said word given) }
+pub fn step_said(word: TurnWord, given: Arguments) -> Result<Step, Cause>
+    ensures { result ≡ step_said word given }
 {
     let Arguments {
         dc: d,
@@ -130,6 +130,6 @@ pub fn step_said(word: TurnWord, given: Arguments) -> Result<Step, LineFault>
         | TurnWord::AddBatcher
         | TurnWord::AddQueue
         | TurnWord::AddSender
-        | TurnWord::AddReceiver => Err(LineFault::Bad(Cause::NotBuilt)),
+        | TurnWord::AddReceiver => Err(Cause::NotBuilt),
     }
 }

@@ -1,7 +1,7 @@
 ghost use Rattle.std.specs.Prelude.{◌≡◌, ◌==◌, IfOk};
 ghost use Rattle.std.specs.List.{list_all, list_any, find};
 ghost use Rattle.script_text.specs.Words.{words, is_line_byte, is_empty_word};
-ghost use Rattle.script_text.specs.Reading.{Gives};
+ghost use Rattle.script_text.specs.Reading.{Gives, Reads};
 ghost use Rattle.script_text.specs.Meaning.{start, chariots_line, datacentres_line, round_line, sizes_at, stages_line, session_line, append_line, put_line, get_line, tx_line, read_line, last_line, with_command, command_meaning, with_step, turn_line, meaning, words_after, line_after, is_given, is_passed_over, sizes_given, script_said};
 
 use crate::arguments::{read_arguments, step_said};
@@ -66,8 +66,8 @@ impl Progress {
     }
 
     #[tactic(auto, unfolding(crate::specs::Meaning::chariots_line))]
-    fn chariots(&mut self, words: &mut Words<'_>) -> Result<(), LineFault>
-        ensures { Gives (λ _. self.new) result (chariots_line self.old words.old) }
+    fn chariots(&mut self, words: &mut Words<'_>) -> Result<(), Cause>
+        ensures { Reads (λ _. self.new) result (chariots_line self.old words.old) }
     {
         words.number(1, 1)?;
         self.section = Section::Datacentres;
@@ -75,8 +75,8 @@ impl Progress {
     }
 
     #[tactic(auto, unfolding(crate::specs::Meaning::datacentres_line))]
-    fn datacentres(&mut self, words: &mut Words<'_>) -> Result<(), LineFault>
-        ensures { Gives (λ _. self.new) result (datacentres_line self.old words.old) }
+    fn datacentres(&mut self, words: &mut Words<'_>) -> Result<(), Cause>
+        ensures { Reads (λ _. self.new) result (datacentres_line self.old words.old) }
     {
         self.dcs = words.number(1, 8)?;
         self.section = Section::Round;
@@ -84,8 +84,8 @@ impl Progress {
     }
 
     #[tactic(auto, unfolding(crate::specs::Meaning::round_line))]
-    fn round(&mut self, words: &mut Words<'_>) -> Result<(), LineFault>
-        ensures { Gives (λ _. self.new) result (round_line self.old words.old) }
+    fn round(&mut self, words: &mut Words<'_>) -> Result<(), Cause>
+        ensures { Reads (λ _. self.new) result (round_line self.old words.old) }
     {
         self.round = words.number(1, 1024)?;
         self.section = Section::Stages;
@@ -220,22 +220,17 @@ impl Progress {
         ensures { Gives (λ _. self.new) result (meaning self.old keyword words.old) }
     {
         match keyword {
-            Keyword::Chariots => self.chariots(words),
-            Keyword::Datacentres => self.datacentres(words),
-            Keyword::Round => self.round(words),
-            Keyword::Stages => self.stages(words),
-            Keyword::Session => self.session(words),
-            Keyword::Command(word) => self.command(word, words),
-            Keyword::Steps => {
-                self.section = Section::Steps;
-                Ok(())
-            }
-            Keyword::Turn(word) => self.turn(word, words),
-            Keyword::End => {
-                self.section = Section::Ended;
-                Ok(())
-            }
+            Keyword::Chariots => self.chariots(words)?,
+            Keyword::Datacentres => self.datacentres(words)?,
+            Keyword::Round => self.round(words)?,
+            Keyword::Stages => self.stages(words)?,
+            Keyword::Session => self.session(words)?,
+            Keyword::Command(word) => self.command(word, words)?,
+            Keyword::Steps => self.section = Section::Steps,
+            Keyword::Turn(word) => self.turn(word, words)?,
+            Keyword::End => self.section = Section::Ended,
         }
+        Ok(())
     }
 
     fn command(&mut self, word: CommandWord, words: &mut Words<'_>) -> Result<(), LineFault>
@@ -322,8 +317,8 @@ impl Progress {
 
 // The numbers of members of the seven stages.
 #[tactic(auto, unfolding(crate::specs::Meaning::sizes_at))]
-fn read_sizes(words: &mut Words<'_>) -> Result<Sizes, LineFault>
-    ensures { Gives (λ sizes. (sizes, words.new)) result (sizes_at words.old) }
+fn read_sizes(words: &mut Words<'_>) -> Result<Sizes, Cause>
+    ensures { Reads (λ sizes. (sizes, words.new)) result (sizes_at words.old) }
 {
     let batchers = words.number(1, 16)?;
     let filters = words.number(1, 16)?;

@@ -2,7 +2,7 @@ ghost use Rattle.std.specs.Prelude.{◌≡◌, ℕ, All, IfOk, IsErrOf, MatchRes
 ghost use Rattle.script_text.specs.Lines.{lines};
 ghost use Rattle.abstract_log.specs.Fits.{FitsScript};
 ghost use Rattle.script_text.specs.Meaning.{script_of};
-ghost use Rattle.script_text.specs.Spelled.{Spells, IsBuiltCommand, IsBuiltStep, IsWritten};
+ghost use Rattle.script_text.specs.Spelled.{Spells, IsBuiltStep, IsWritten};
 ghost use Rattle.script_text.specs.Steps.{FitsStep};
 ghost use Rattle.abstract_log.specs.declared.script.Script.{Script};
 ghost use Rattle.script_text.specs.declared.fault.Cause.{Cause};
@@ -33,7 +33,7 @@ pub fn read_script(alloc: Global, bytes: &[u8]) -> Result<Script, ScriptFault>
     ensures steps { IfOk result (λ script. All (FitsStep script.workload) script.steps) }
 
     // As yet it has no steps that add members.
-    ensures built { IfOk result (λ script. All (λ plan. All IsBuiltCommand plan.commands) script.workload.sessions × All IsBuiltStep script.steps) }
+    ensures built { IfOk result (λ script. All IsBuiltStep script.steps) }
 {
     read_lines(alloc, bytes)
 }

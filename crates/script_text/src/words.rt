@@ -1,7 +1,7 @@
-ghost use Rattle.std.specs.Prelude.{◌≡◌, ℕ, ◌+◌, ◌-◌, ◌<◌, ◌≤◌, List, [], ◌∷◌, length, slice_index, MatchOption, IsTrue, true, false};
+ghost use Rattle.std.specs.Prelude.{◌≡◌, ℕ, ◌+◌, ◌-◌, ◌<◌, ◌≤◌, List, [], ◌∷◌, length, slice_index, IfOk, MatchOption, IsTrue, true, false};
 ghost use Rattle.std.specs.List.{position, list_all, count_by};
 ghost use Rattle.script_text.specs.Words.{words, is_blank, is_digit, is_number, number_of, is_datacentre};
-ghost use Rattle.script_text.specs.Reading.{Gives, number_in, number_at, number_below_at, datacentre_at, other_datacentre_at, body_at, body_in, names_in, name_in, name_at};
+ghost use Rattle.script_text.specs.Reading.{Gives, Reads, number_in, number_at, number_below_at, datacentre_at, other_datacentre_at, body_at, body_in, names_in, name_in, name_at};
 
 use crate::fault::{Cause, LineFault};
 use cz_base::{Body, BodyFault, DcId, Name, NameFault, Seq};
@@ -63,50 +63,50 @@ impl<'a> Words<'a> {
 
     /// The next word as a number of a range.
     #[tactic(auto, unfolding(crate::specs::Reading::number_at))]
-    pub fn number(&mut self, least: u32, most: u32) -> Result<u32, LineFault>
-        ensures { Gives (λ n. (n, self.new)) result (number_at least most self.old) }
+    pub fn number(&mut self, least: u32, most: u32) -> Result<u32, Cause>
+        ensures { Reads (λ n. (n, self.new)) result (number_at least most self.old) }
     {
         let Some(word) = self.next_word() else {
-            return Err(LineFault::Bad(Cause::WrongWords));
+            return Err(Cause::WrongWords);
         };
-        Ok(read_number(word, least, most)?)
+        read_number(word, least, most)
     }
 
     /// The next word as a number below a limit.
     #[tactic(auto, unfolding(crate::specs::Reading::number_below_at))]
-    pub fn number_below(&mut self, limit: usize) -> Result<u32, LineFault>
-        ensures { Gives (λ n. (n, self.new)) result (number_below_at limit self.old) }
+    pub fn number_below(&mut self, limit: usize) -> Result<u32, Cause>
+        ensures { Reads (λ n. (n, self.new)) result (number_below_at limit self.old) }
     {
         let number = self.number(0, u32::MAX)?;
         if (number as usize) < limit {
             Ok(number)
         } else {
-            Err(LineFault::Bad(Cause::OutOfRange))
+            Err(Cause::OutOfRange)
         }
     }
 
     /// The next word as one of so many datacentres.
     #[tactic(auto, unfolding(crate::specs::Reading::datacentre_at))]
-    pub fn datacentre(&mut self, dcs: u32) -> Result<DcId, LineFault>
-        ensures { Gives (λ dc. (dc, self.new)) result (datacentre_at dcs self.old) }
+    pub fn datacentre(&mut self, dcs: u32) -> Result<DcId, Cause>
+        ensures { Reads (λ dc. (dc, self.new)) result (datacentre_at dcs self.old) }
     {
         let Some(word) = self.next_word() else {
-            return Err(LineFault::Bad(Cause::WrongWords));
+            return Err(Cause::WrongWords);
         };
         match read_datacentre(word, dcs) {
             Some(dc) => Ok(dc),
-            None => Err(LineFault::Bad(Cause::BadDatacentre)),
+            None => Err(Cause::BadDatacentre),
         }
     }
 
     /// The next word as one of so many datacentres, but not the first.
     #[tactic(auto, unfolding(crate::specs::Reading::other_datacentre_at))]
-    pub fn other_datacentre(&mut self, dcs: u32, first: DcId) -> Result<DcId, LineFault>
-        ensures { Gives (λ dc. (dc, self.new)) result (other_datacentre_at dcs first self.old) }
+    pub fn other_datacentre(&mut self, dcs: u32, first: DcId) -> Result<DcId, Cause>
+        ensures { Reads (λ dc. (dc, self.new)) result (other_datacentre_at dcs first self.old) }
     {
         let dc = self.datacentre(dcs)?;
         if dc == first {
-            return Err(LineFault::Bad(Cause::BadDatacentre));
+            return Err(Cause::BadDatacentre);
         }
         Ok(dc)
     }
@@ -136,7 +136,8 @@ impl<'a> Words<'a> {
     /// All words that are left as names.
     #[tactic(auto, unfolding(crate::specs::Reading::names_in))]
     pub fn names(&mut self, alloc: Global) -> Result<Seq<Name>, LineFault>
-        ensures { Gives (λ names. names) result (names_in self.old) }
+        ensures names { Gives (λ names. names) result (names_in self.old) }
+        ensures left { IfOk result (λ _. self.new ≡ []) }
     {
         let mut names = Seq::new(alloc);
         while let Some(word) = self.next_word() {

@@ -13,4 +13,4 @@ pub returns-clause-steps : goal.returns-clause-steps
 returns-clause-steps c = (is_good c.args.seed _ (returns-clause-script c)).steps
 
 pub returns-clause-built : goal.returns-clause-built
-returns-clause-built c = let good = is_good c.args.seed _ (returns-clause-script c) in (good.commands, good.turns)
+returns-clause-built c = (is_good c.args.seed _ (returns-clause-script c)).turns
