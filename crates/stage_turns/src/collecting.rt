@@ -1,4 +1,4 @@
-ghost use Rattle.std.specs.Prelude.{◌≡◌, ◌<◌, ◌++◌, [], length, fold, map, min, nat_lt, All, IfOk, OnOk, IsSome};
+ghost use Rattle.std.specs.Prelude.{◌≡◌, ◌<◌, ◌++◌, [], length, fold, map, min, nat_lt, All, IfOk, OnOk, IsOk, IsSome};
 ghost use Rattle.std.specs.List.{AllPairs};
 ghost use Rattle.abstract_log.specs.declared.event.Event.TheVariants.{Collect as CollectEvent};
 ghost use Rattle.abstract_log.specs.declared.script.Outcome.TheVariants.{FloorAt as FloorIsAt};
@@ -23,13 +23,14 @@ use std::alloc::Global;
 use tag_indexer::{Indexer, home};
 
 /// The collection floor rises to p, but not above the head of the first vector, which is lent, what an indexer covers, or
-/// a pin. The outcome is the new floor.
+/// a pin. The outcome is the new floor. No memory is taken.
 pub fn floor(
     p: Lid,
     vector: &Vector,
     indexers: &Seq<Indexer>,
     floor: &mut Gc,
 ) -> Result<TurnDone, NoMemory>
+    ensures succeeds { IsOk result }
     ensures floor { OnOk result (floor.new ≡ record floor.old { floor = risen floor.old p (head vector.now) (covered_by indexers.now) }) }
     ensures outcome { IfOk result (λ done. done.outcome ≡ FloorIsAt floor.new.floor) }
     ensures events { IfOk result (λ done. done.events ≡ []) }

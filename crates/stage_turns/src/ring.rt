@@ -1,5 +1,5 @@
 //! The token goes from queue to queue.
-ghost use Rattle.std.specs.Prelude.{◌≡◌, [], length, nat_lt, position, is_some, IfOk};
+ghost use Rattle.std.specs.Prelude.{◌≡◌, [], length, nat_lt, position, is_some, IfOk, IsOk};
 ghost use Rattle.token_queue.specs.Queues.{QueueState};
 ghost use Rattle.abstract_log.specs.declared.script.Outcome.TheVariants.{At};
 ghost use Rattle.stage_turns.specs.Lent.{HaveToken, MayMoveToken, has_token, queues_seen, token_at_next, token_seen};
@@ -9,9 +9,10 @@ use abstract_log::Outcome;
 use cz_base::{NoMemory, Seq};
 use token_queue::Queue;
 
-/// The token goes to the queue after the one that has it; after the last comes the first.
+/// The token goes to the queue after the one that has it; after the last comes the first. No memory is taken.
 pub fn token(queues: &mut Seq<Queue>) -> Result<TurnDone, NoMemory>
     requires { MayMoveToken queues.old (token_seen queues.old) }
+    ensures succeeds { IsOk result }
     ensures queues { queues_seen queues.new ≡ queues_seen queues.old }
     ensures token { token_seen queues.new ≡ token_at_next (token_seen queues.old) }
     ensures holder { HaveToken queues.new (token_at_next (token_seen queues.old)) }
