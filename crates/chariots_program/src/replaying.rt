@@ -26,8 +26,11 @@ pub const SCRIPT_LIMIT: usize = 4_194_304;
 /// A run, the turns that brought it, and its report.
 #[derive(Drop)]
 pub struct Told {
+    /// The events, and the workload that they answer.
     pub run: Run,
+    /// A line for each turn, but the idle ones of settling.
     pub stages: StageLog,
+    /// The bytes of the report.
     pub text: Vec<u8>,
 }
 

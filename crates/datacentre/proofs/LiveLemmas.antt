@@ -26,7 +26,6 @@ use Rattle.stage_turns.specs.Told.{told_by}
 use Rattle.datacentre.specs.Turning.{IsPacketOf, IsTurned, MayTurn, Sends, TakesTurn}
 use Rattle.datacentre.proofs.WholeLinks.{told_all}
 
--- how many indexers are seen
 -- at most 16 of each kind
 pub record AreFew (p : Parts) : Type 0 where
   pub batchers : length p.batchers ≤ 16
@@ -97,6 +96,14 @@ module _ (failed : Bool) (p : Parts) (s : DatacentreState) (view : state_of fail
 
   pub log_of_live : failed ≡ false → ForSome s.stages (StandsForALog s.dc) → StandsForALog p.dc (seen p)
   log_of_live works log = subst (λ d. StandsForALog d (seen p)) (sym here) (log (seen p) (live works))
+
+  -- stages that stand for a log have few members
+  pub few_of : (x : Datacentre) → s.stages ≡ Some x → StandsForALog s.dc x → AreFew p
+  few_of x is log = are_few p (subst (λ d. StandsForALog d (seen p)) (sym here) (subst (StandsForALog s.dc) (sym (some_is x is)) log))
+
+  -- where the token is
+  pub at_of : (x : Datacentre) → s.stages ≡ Some x → (token_seen p.queues).at ≡ x.token.at
+  at_of x is = ap (λ (z : Datacentre). z.token.at) (some_is x is)
 
   pub may_turn : failed ≡ false → (failed ≡ false → IsWhole p) → ForSome s.stages (StandsForALog s.dc) → MayTurn p
   may_turn works whole log = record { whole = whole works; log = log_of_live works log }

@@ -1,5 +1,6 @@
 -- What contracts see of a datacentre.
 use Rattle.std.specs.Prelude.{◌≡◌, ℕ, ◌==◌, Bool, if◌then◌else◌, List, [], length, find, replicate, Option, Some, None, All}
+use Rattle.cz_base.specs.declared.limits.TheConstants.{SESSIONS}
 use Rattle.std.specs.Option.{option_and_then}
 use Rattle.abstract_log.specs.declared.world.World.{World}
 use Rattle.flstore_rounds.specs.Epochs.{EpochList}
@@ -52,7 +53,7 @@ pub record IsWhole (p : Parts) : Type 0 where
   pub table : p.table.dc ≡ p.dc
   pub senders : All (λ s. s.dc ≡ p.dc) p.senders
   pub pins : (n : ℕ) → pin_of p.floor n ≡ pin_in p.sessions n
-  pub many : length p.floor.pins ≡ 64
+  pub many : length p.floor.pins ≡ SESSIONS
 
 -- Stages of datacentre d that stand for some log: that of a world which a run has left.
 pub record StandsForALog (d : ℕ) (z : Datacentre) : Type 0 where

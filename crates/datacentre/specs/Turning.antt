@@ -1,5 +1,5 @@
 -- What a turn of a datacentre asks, what it leaves, and what it answers.
-use Rattle.std.specs.Prelude.{◌≡◌, ⊤, ℕ, ◌<◌, ◌≤◌, false, List, length, Option, Some, None, Result, MatchOption, MatchResult}
+use Rattle.std.specs.Prelude.{◌≡◌, ◌⊎◌, ⊤, ℕ, ◌<◌, ◌≤◌, false, List, length, Option, Some, None, Result, MatchOption, MatchResult}
 use Rattle.abstract_log.specs.declared.script.Step.{Step}
 use Rattle.abstract_log.specs.declared.script.Step.TheVariants.{Client, Flush, Pass, Stamp, Token, Place, Gossip, Post, Learn, Send, Deliver, Lose, Copy, Floor, Collect, Announce, Mark, AddMaintainer, AddBatcher, AddQueue, AddSender, AddReceiver}
 use Rattle.stage_world.specs.Stages.{Datacentre}
@@ -37,6 +37,31 @@ pub record TookTurn (d : ℕ) (z : Datacentre) (turned : Turned) (done : TurnDon
 -- It failed: nothing is known of its stages from then on.
 abbrev pub HasFailed : DatacentreState → Type 0
 HasFailed new = new.stages ≡ None
+
+-- The turns that take no memory: those of the token and of the floor, and each that names a member which is not there.
+abbrev pub TakesNoMemory : Datacentre → Step → Type 0
+TakesNoMemory z (Client s) = ⊥
+TakesNoMemory z (Flush d b) = length z.batchers ≤ b
+TakesNoMemory z (Pass d f q) = (length z.filters ≤ f) ⊎ (length z.queues ≤ q)
+TakesNoMemory z (Stamp d q) = length z.queues ≤ q
+TakesNoMemory z (Token d) = ⊤
+TakesNoMemory z (Place d q m) = (length z.queues ≤ q) ⊎ (length z.maintainers ≤ m)
+TakesNoMemory z (Gossip d m k) = (length z.maintainers ≤ m) ⊎ (length z.maintainers ≤ k)
+TakesNoMemory z (Post d m i) = (length z.maintainers ≤ m) ⊎ (length z.indexers ≤ i)
+TakesNoMemory z (Learn d) = ⊥
+TakesNoMemory z (Send d k e) = ⊥
+TakesNoMemory z (Deliver d e k r) = ⊥
+TakesNoMemory z (Lose d e k) = ⊥
+TakesNoMemory z (Copy d e k) = ⊥
+TakesNoMemory z (Floor d p) = ⊤
+TakesNoMemory z (Collect d m) = length z.maintainers ≤ m
+TakesNoMemory z (Announce d h t) = ⊥
+TakesNoMemory z (Mark d) = ⊥
+TakesNoMemory z (AddMaintainer d p) = ⊥
+TakesNoMemory z (AddBatcher d) = ⊥
+TakesNoMemory z (AddQueue d) = ⊥
+TakesNoMemory z (AddSender d) = ⊥
+TakesNoMemory z (AddReceiver d) = ⊥
 
 -- It took the turn, or memory was wanted and it has failed.
 abbrev pub TakesTurn : {E : Type 0} → ℕ → Datacentre → Turned → Result TurnDone E → DatacentreState → Type 0

@@ -1,4 +1,7 @@
-ghost use Rattle.std.specs.Prelude.{◌≡◌, ◌≢◌, ◌↔◌, ◌<◌, ◌≤◌, [], length, Some, None, IfOk, IsErr, IsTrue};
+//! One datacentre: its turns, and what is asked of it.
+
+ghost use Rattle.std.specs.Prelude.{◌≡◌, ◌≢◌, ◌↔◌, ◌<◌, ◌≤◌, [], length, Some, None, IfOk, IsErr, IsOk, IsTrue};
+ghost use Rattle.cz_base.specs.declared.limits.TheConstants.{MEMBERS, ROUND};
 ghost use Rattle.std.specs.List.{list_any};
 ghost use Rattle.std.specs.Option.{ForSome};
 ghost use Rattle.abstract_log.specs.Fits.{FitsLimits, FitsSizes};
@@ -8,7 +11,7 @@ ghost use Rattle.stage_world.specs.Schedules.{turn_of};
 ghost use Rattle.datacentre.specs.Seen.{IsWhole, StandsForALog, seen};
 ghost use Rattle.stage_turns.specs.Clients.{is_unanswered};
 ghost use Rattle.datacentre.specs.Leaving.{IsLeftBy};
-ghost use Rattle.datacentre.specs.Turning.{IsBuilt, Sends, TakesTurn};
+ghost use Rattle.datacentre.specs.Turning.{IsBuilt, Sends, TakesNoMemory, TakesTurn};
 ghost use Rattle.stage_turns.specs.Told.{IsToldBy};
 ghost use Rattle.record_codec.specs.declared.message.Message.{Message};
 ghost use Rattle.record_codec.specs.Wire.{SpellsMessage};
@@ -24,6 +27,7 @@ use crate::{Session, TurnDone, turns};
 use abstract_log::{LeftAt, Sizes, Step, Workload};
 use awareness_table::Aware;
 use causal_deps::Counts;
+use cz_base::limits::MEMBERS;
 use cz_base::{DcId, NoMemory, Seq};
 use flstore_rounds::Epochs;
 use log_gc::Gc;
@@ -61,7 +65,7 @@ impl Datacentre {
         workload: &Workload,
     ) -> Result<Self, NoMemory>
         requires dc { dc < workload.now.dcs }
-        requires round { (1 ≤ round) × (round ≤ 1024) }
+        requires round { (1 ≤ round) × (round ≤ ROUND) }
         requires sizes { FitsSizes sizes.now }
         requires limits { FitsLimits workload.now }
         ensures { IfOk result (λ datacentre. datacentre ≡ record { dc = dc; stages = Some (opening_at round sizes.now workload.now dc) }) }
@@ -78,6 +82,7 @@ impl Datacentre {
         requires log { ForSome self.old.stages (StandsForALog self.old.dc) }
         requires built { ForSome self.old.stages (λ z. IsBuilt z step.now) }
         ensures turn { ForSome self.old.stages (λ z. TakesTurn self.old.dc z (turn_of self.old.dc z step.now) result self.new) }
+        ensures succeeds { ForSome self.old.stages (λ z. TakesNoMemory z step.now → IsOk result) }
         ensures failed { self.old.stages ≡ None → IsErr result × (self.new ≡ self.old) }
     {
         if self.failed {
@@ -119,35 +124,33 @@ impl Datacentre {
         received
     }
 
-    /// How many members each stage has now.
+    /// How many members each stage has now, and 0 of each once it has failed.
     pub fn members(&self) -> Sizes
-        requires { ForSome self.now.stages (StandsForALog self.now.dc) }
-        ensures { ForSome self.now.stages (λ z. result ≡ sizes_of z) }
+        ensures { ForSome self.now.stages (λ z. StandsForALog self.now.dc z → result ≡ sizes_of z) }
     {
         if self.failed {
             return NO_SIZES;
         }
         let parts = &self.parts;
         Sizes {
-            batchers: parts.batchers.len() as u32,
-            filters: parts.filters.len() as u32,
-            queues: parts.queues.len() as u32,
-            maintainers: parts.maintainers.len() as u32,
-            indexers: parts.indexers.len() as u32,
-            senders: parts.senders.len() as u32,
+            batchers: member_count(parts.batchers.len()),
+            filters: member_count(parts.filters.len()),
+            queues: member_count(parts.queues.len()),
+            maintainers: member_count(parts.maintainers.len()),
+            indexers: member_count(parts.indexers.len()),
+            senders: member_count(parts.senders.len()),
             receivers: parts.receivers,
         }
     }
 
-    /// The queue that has the token.
+    /// The number of the queue that has the token, and 0 once the datacentre has failed.
     pub fn holder(&self) -> u32
-        requires { ForSome self.now.stages (StandsForALog self.now.dc) }
-        ensures { ForSome self.now.stages (λ z. result ≡ z.token.at) }
+        ensures { ForSome self.now.stages (λ z. StandsForALog self.now.dc z → result ≡ z.token.at) }
     {
         if self.failed {
             return 0;
         }
-        turns::holder(&self.parts.queues) as u32
+        member_count(turns::holder(&self.parts.queues))
     }
 
     /// The counts of its log, which are the token's.
@@ -215,6 +218,13 @@ fn any_unanswered(sessions: &[Session]) -> bool
     sessions.iter().any(|session| session.unanswered())
 }
 
+// A number of members in 32 bits; there are no more than 16 of a kind.
+fn member_count(members: usize) -> u32
+    ensures { members ≤ MEMBERS → result ≡ members }
+{
+    members.min(u32::MAX as usize) as u32
+}
+
 // What stands for the sizes of a datacentre that has failed.
 const NO_SIZES: Sizes = Sizes {
     batchers: 0,
@@ -234,7 +244,7 @@ fn new_parts(
     workload: &Workload,
 ) -> Result<Parts, NoMemory>
     requires dc { dc < workload.now.dcs }
-    requires round { (1 ≤ round) × (round ≤ 1024) }
+    requires round { (1 ≤ round) × (round ≤ ROUND) }
     requires sizes { FitsSizes sizes.now }
     requires limits { FitsLimits workload.now }
     ensures stages { IfOk result (λ parts. seen parts ≡ opening_at round sizes.now workload.now dc) }

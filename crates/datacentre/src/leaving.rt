@@ -10,6 +10,7 @@ use crate::parts::Parts;
 use crate::turns::holder;
 use abstract_log::{LeftAt, Row};
 use causal_deps::{Place, Record, Table};
+use cz_base::limits::MEMBERS;
 use cz_base::{DcId, Lid, NoMemory, Seq};
 use maintainer::{Maintainer, Slot};
 use std::alloc::Global;
@@ -124,7 +125,7 @@ fn put_outboxes(rows: &mut Seq<Row>, queue: Queue)
     ensures { rows.new ≡ fold with_slot rows.old (slots_in queue.outboxes) }
 {
     let mut queue = queue;
-    for m in 0..16 {
+    for m in 0..MEMBERS as u32 {
         put_entries(rows, queue.take_out(m));
     }
 }

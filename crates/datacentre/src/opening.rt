@@ -1,5 +1,6 @@
 //! The members of a datacentre's stages at the beginning, each kind by number.
 ghost use Rattle.std.specs.Prelude.{◌≡◌, ◌<◌, ◌≤◌, ◌^◌, [], length, replicate, slice_set, Some, None, All, IfOk};
+ghost use Rattle.cz_base.specs.declared.limits.TheConstants.{DATACENTRES, MEMBERS};
 ghost use Rattle.flstore_rounds.specs.Heads.{blank};
 ghost use Rattle.hyksos.specs.Sessions.{AreCommands};
 ghost use Rattle.maintainer.specs.Maintainers.{empty};
@@ -55,9 +56,9 @@ pub(crate) fn new_ring(
     n: u32,
     epochs: &Epochs,
 ) -> Result<Seq<Queue>, NoMemory>
-    requires dcs { (1 ≤ dcs) × (dcs ≤ 8) }
+    requires dcs { (1 ≤ dcs) × (dcs ≤ DATACENTRES) }
     requires dc { dc < dcs }
-    requires queues { (1 ≤ n) × (n ≤ 16) }
+    requires queues { (1 ≤ n) × (n ≤ MEMBERS) }
     ensures seen { IfOk result (λ queues. queues_seen queues ≡ numbered (λ i. new_queue i epochs.now) n) }
     ensures token { IfOk result (λ queues. HaveToken queues (first_token dc dcs epochs.now n)) }
 {
@@ -68,7 +69,7 @@ pub(crate) fn new_ring(
 
 // So many queues, none of which has the token.
 fn new_queues(alloc: Global, n: u32, epochs: &Epochs) -> Result<Seq<Queue>, NoMemory>
-    requires { n ≤ 16 }
+    requires { n ≤ MEMBERS }
     ensures { IfOk result (λ queues. queues ≡ numbered (λ i. new_queue i epochs.now) n) }
 {
     let mut queues = Seq::new(alloc);
@@ -133,7 +134,7 @@ pub(crate) fn new_sessions(
     dc: DcId,
     plans: &Seq<SessionPlan>,
 ) -> Result<Seq<Session>, NoMemory>
-    requires dcs { (1 ≤ dcs) × (dcs ≤ 8) }
+    requires dcs { (1 ≤ dcs) × (dcs ≤ DATACENTRES) }
     requires few { length plans.now < 2 ^ 32 }
     requires commands { All (λ plan. AreCommands plan.commands) plans.now }
     ensures { IfOk result (λ sessions. sessions ≡ sessions_from dcs dc 0 plans.now) }
@@ -150,7 +151,7 @@ pub(crate) fn new_sessions(
 }
 
 fn new_session(dcs: u32, number: u32, plan: &SessionPlan) -> Result<Session, NoMemory>
-    requires dcs { (1 ≤ dcs) × (dcs ≤ 8) }
+    requires dcs { (1 ≤ dcs) × (dcs ≤ DATACENTRES) }
     requires commands { AreCommands plan.now.commands }
     ensures { IfOk result (λ session. session ≡ new_session dcs number plan.now) }
 {

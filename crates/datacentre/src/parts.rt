@@ -1,3 +1,5 @@
+//! The stages of a datacentre, as the code holds them.
+
 use awareness_table::Aware;
 use batcher::Batcher;
 use causal_deps::{Place, Record};

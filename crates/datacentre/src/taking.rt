@@ -1,5 +1,5 @@
 //! The turns of a whole datacentre: where a member is not there nothing happens, else it is lent its stages.
-ghost use Rattle.std.specs.Prelude.{◌≡◌, ◌<◌, ◌&&◌, [], false, nat_lt, length, slice_index_or, IfOk};
+ghost use Rattle.std.specs.Prelude.{◌≡◌, ◌<◌, ◌≤◌, ◌⊎◌, ◌&&◌, [], false, nat_lt, length, slice_index_or, IfOk, IsOk};
 ghost use Rattle.abstract_log.specs.declared.script.Outcome.TheVariants.{Absent};
 ghost use Rattle.record_codec.specs.declared.message.Message.{Message};
 ghost use Rattle.record_codec.specs.Wire.{SpellsMessage};
@@ -11,7 +11,7 @@ ghost use Rattle.datacentre.specs.Seen.{seen};
 ghost use Rattle.stage_world.specs.Schedules.{turn_of};
 ghost use Rattle.hyksos.specs.Sessions.{writes};
 ghost use Rattle.stage_turns.specs.Told.{IsToldBy};
-ghost use Rattle.datacentre.specs.Turning.{IsBuilt, IsPacketOf, IsTurned, MayTurn, send_told};
+ghost use Rattle.datacentre.specs.Turning.{IsBuilt, IsPacketOf, IsTurned, MayTurn, TakesNoMemory, send_told};
 
 use crate::parts::Parts;
 use crate::{TurnDone, turns};
@@ -24,7 +24,8 @@ impl Parts {
     pub fn take_turn(&mut self, step: &Step) -> Result<TurnDone, NoMemory>
         requires may { MayTurn self.old }
         requires built { IsBuilt (seen self.old) step.now }
-        ensures { IfOk result (λ done. IsTurned self.old self.new done (turn_of self.old.dc (seen self.old) step.now)) }
+        ensures turned { IfOk result (λ done. IsTurned self.old self.new done (turn_of self.old.dc (seen self.old) step.now)) }
+        ensures succeeds { TakesNoMemory (seen self.old) step.now → IsOk result }
     {
         match step {
             Step::Client { s } => self.client(*s),
@@ -45,7 +46,8 @@ impl Parts {
     /// Batcher b hands its items to the filters.
     pub fn flush(&mut self, b: u32) -> Result<TurnDone, NoMemory>
         requires { MayTurn self.old }
-        ensures { IfOk result (λ done. IsTurned self.old self.new done (where_there (nat_lt b (length self.old.batchers)) (seen self.old) (flush_turn (seen self.old) b))) }
+        ensures turned { IfOk result (λ done. IsTurned self.old self.new done (where_there (nat_lt b (length self.old.batchers)) (seen self.old) (flush_turn (seen self.old) b))) }
+        ensures succeeds { length self.old.batchers ≤ b → IsOk result }
     {
         if b as usize >= self.batchers.len() {
             return Ok(self.absent());
@@ -60,7 +62,8 @@ impl Parts {
     /// Filter f hands what it passed to queue q.
     pub fn pass(&mut self, f: u32, q: u32) -> Result<TurnDone, NoMemory>
         requires { MayTurn self.old }
-        ensures { IfOk result (λ done. IsTurned self.old self.new done (where_there (nat_lt f (length self.old.filters) && nat_lt q (length self.old.queues)) (seen self.old) (pass_turn (seen self.old) f q))) }
+        ensures turned { IfOk result (λ done. IsTurned self.old self.new done (where_there (nat_lt f (length self.old.filters) && nat_lt q (length self.old.queues)) (seen self.old) (pass_turn (seen self.old) f q))) }
+        ensures succeeds { (length self.old.filters ≤ f) ⊎ (length self.old.queues ≤ q) → IsOk result }
     {
         if f as usize >= self.filters.len() || q as usize >= self.queues.len() {
             return Ok(self.absent());
@@ -71,7 +74,8 @@ impl Parts {
     /// Queue q stamps, if it has the token.
     pub fn stamp(&mut self, q: u32) -> Result<TurnDone, NoMemory>
         requires { MayTurn self.old }
-        ensures { IfOk result (λ done. IsTurned self.old self.new done (where_there (nat_lt q (length self.old.queues)) (seen self.old) (stamp_turn self.old.dc (seen self.old) q))) }
+        ensures turned { IfOk result (λ done. IsTurned self.old self.new done (where_there (nat_lt q (length self.old.queues)) (seen self.old) (stamp_turn self.old.dc (seen self.old) q))) }
+        ensures succeeds { length self.old.queues ≤ q → IsOk result }
     {
         if q as usize >= self.queues.len() {
             return Ok(self.absent());
@@ -86,7 +90,8 @@ impl Parts {
     /// The token goes to the next queue.
     pub fn token(&mut self) -> Result<TurnDone, NoMemory>
         requires { MayTurn self.old }
-        ensures { IfOk result (λ done. IsTurned self.old self.new done (token_turn (seen self.old))) }
+        ensures turned { IfOk result (λ done. IsTurned self.old self.new done (token_turn (seen self.old))) }
+        ensures succeeds { IsOk result }
     {
         turns::token(&mut self.queues)
     }
@@ -94,7 +99,8 @@ impl Parts {
     /// Maintainer m takes what queue q stamped for it.
     pub fn place(&mut self, q: u32, m: u32) -> Result<TurnDone, NoMemory>
         requires { MayTurn self.old }
-        ensures { IfOk result (λ done. IsTurned self.old self.new done (where_there (nat_lt q (length self.old.queues) && nat_lt m (length self.old.maintainers)) (seen self.old) (place_turn (seen self.old) q m))) }
+        ensures turned { IfOk result (λ done. IsTurned self.old self.new done (where_there (nat_lt q (length self.old.queues) && nat_lt m (length self.old.maintainers)) (seen self.old) (place_turn (seen self.old) q m))) }
+        ensures succeeds { (length self.old.queues ≤ q) ⊎ (length self.old.maintainers ≤ m) → IsOk result }
     {
         if q as usize >= self.queues.len() || m as usize >= self.maintainers.len() {
             return Ok(self.absent());
@@ -109,7 +115,8 @@ impl Parts {
     /// The vector of maintainer k hears that of maintainer m.
     pub fn gossip(&mut self, m: u32, k: u32) -> Result<TurnDone, NoMemory>
         requires { MayTurn self.old }
-        ensures { IfOk result (λ done. IsTurned self.old self.new done (where_there (nat_lt m (length self.old.maintainers) && nat_lt k (length self.old.maintainers)) (seen self.old) (gossip_turn (seen self.old) m k))) }
+        ensures turned { IfOk result (λ done. IsTurned self.old self.new done (where_there (nat_lt m (length self.old.maintainers) && nat_lt k (length self.old.maintainers)) (seen self.old) (gossip_turn (seen self.old) m k))) }
+        ensures succeeds { (length self.old.maintainers ≤ m) ⊎ (length self.old.maintainers ≤ k) → IsOk result }
     {
         let there = self.maintainers.len();
         if m as usize >= there || k as usize >= there {
@@ -127,7 +134,8 @@ impl Parts {
     /// Indexer i takes what maintainer m has to post.
     pub fn post(&mut self, m: u32, i: u32) -> Result<TurnDone, NoMemory>
         requires { MayTurn self.old }
-        ensures { IfOk result (λ done. IsTurned self.old self.new done (where_there (nat_lt m (length self.old.maintainers) && nat_lt i (length self.old.indexers)) (seen self.old) (post_turn (seen self.old) m i))) }
+        ensures turned { IfOk result (λ done. IsTurned self.old self.new done (where_there (nat_lt m (length self.old.maintainers) && nat_lt i (length self.old.indexers)) (seen self.old) (post_turn (seen self.old) m i))) }
+        ensures succeeds { (length self.old.maintainers ≤ m) ⊎ (length self.old.indexers ≤ i) → IsOk result }
     {
         if m as usize >= self.maintainers.len() || i as usize >= self.indexers.len() {
             return Ok(self.absent());
@@ -156,7 +164,8 @@ impl Parts {
     /// The collection floor rises to p, as far as the head, what is posted and the pins allow.
     pub fn raise_floor(&mut self, p: Lid) -> Result<TurnDone, NoMemory>
         requires { MayTurn self.old }
-        ensures { IfOk result (λ done. IsTurned self.old self.new done (floor_turn (seen self.old) p)) }
+        ensures turned { IfOk result (λ done. IsTurned self.old self.new done (floor_turn (seen self.old) p)) }
+        ensures succeeds { IsOk result }
     {
         turns::floor(
             p,
@@ -169,7 +178,8 @@ impl Parts {
     /// Maintainer m lets each record go that may be collected.
     pub fn collect(&mut self, m: u32) -> Result<TurnDone, NoMemory>
         requires { MayTurn self.old }
-        ensures { IfOk result (λ done. IsTurned self.old self.new done (where_there (nat_lt m (length self.old.maintainers)) (seen self.old) (collect_turn self.old.dc (seen self.old) m))) }
+        ensures turned { IfOk result (λ done. IsTurned self.old self.new done (where_there (nat_lt m (length self.old.maintainers)) (seen self.old) (collect_turn self.old.dc (seen self.old) m))) }
+        ensures succeeds { length self.old.maintainers ≤ m → IsOk result }
     {
         if m as usize >= self.maintainers.len() {
             return Ok(self.absent());

@@ -1,5 +1,6 @@
 -- The turn of a session, cut to the stages that it needs.
 use Rattle.std.specs.Prelude.{◌≡◌, ℕ, ◌<◌, ◌≤◌, ◌%◌, ◌||◌, Bool, true, false, not, if◌then◌else◌, is_some, List, [], ◌∷◌, ◌++◌, length, Option, slice_set}
+use Rattle.cz_base.specs.declared.limits.TheConstants.{MEMBERS, SESSIONS}
 use Rattle.std.specs.Option.{option_map_or}
 use Rattle.causal_deps.specs.declared.record.Record.{Record}
 use Rattle.causal_deps.specs.declared.record.Draft.{Draft}
@@ -103,11 +104,11 @@ pub record IsSessionTurn (d : ℕ) (log : List Record) (m : ShelfState) (x : Ses
 -- some log, and what the session has found so far is that log's.
 pub record MayRead (s first : ℕ) (x : SessionState) (ms : List (MaintainerState Record)) (vs : List Pair) (is : List IndexerState) (g : Floored) : Type 0 where
   pub number : x.number ≡ s
-  pub small : s < 64
+  pub small : s < SESSIONS
   pub reads : writes x ≡ false
   pub some : 1 ≤ first
   pub vector : s % first < length vs
-  pub indexers : (1 ≤ length is) × (length is ≤ 16)
+  pub indexers : (1 ≤ length is) × (length is ≤ MEMBERS)
   pub pin : pin_of g s ≡ x.pin
   pub log : List Record
   pub shows : ShowsLog (vector_at vs (s % first)) ms is g log

@@ -1,5 +1,6 @@
 -- How far the collection floor rises, and which entries of a maintainer may go.
 use Rattle.std.specs.Prelude.{◌≡◌, ℕ, ◌<◌, ◌≤◌, ◌==◌, ◌&&◌, ◌||◌, Bool, true, not, nat_lt, nat_le, List, length, map, find, filter, fold, min, Option, Some, None, All, slice_get, unwrap_or}
+use Rattle.cz_base.specs.declared.limits.TheConstants.{MEMBERS}
 use Rattle.std.specs.List.{list_all}
 use Rattle.std.specs.Option.{option_and_then}
 use Rattle.causal_deps.specs.declared.record.Kind.{Kind}
@@ -32,7 +33,7 @@ home_among is tag = unwrap_or (find (λ i. i.number == home tag (length is)) is)
 -- Indexers stand by number, and each counts them.
 pub record AreHomes (is : List IndexerState) : Type 0 where
   pub some : 1 ≤ length is
-  pub few : length is ≤ 16
+  pub few : length is ≤ MEMBERS
   pub each : (i : ℕ) → i < length is → ((indexer_at is i).number ≡ i) × ((indexer_at is i).indexers ≡ length is)
 
 -- the place of a newest put, if there is one

@@ -1,5 +1,6 @@
 -- What filters take from a batcher.
 use Rattle.std.specs.Prelude.{◌≡◌, ⊤, ℕ, ◌<◌, ◌≤◌, List, length, slice_set, All}
+use Rattle.cz_base.specs.declared.limits.TheConstants.{MEMBERS}
 use Rattle.causal_deps.specs.declared.record.Item.{Item}
 use Rattle.causal_deps.specs.declared.record.Item.TheVariants.{Local, External}
 use Rattle.abstract_log.specs.declared.script.FlushItem.{FlushItem}
@@ -14,7 +15,7 @@ pub record AreServing (map : List (List Share)) (fs : List FilterState) : Type 0
   pub one_map : All (λ f. f.map ≡ map) fs
   pub numbers : (i : ℕ) → i < length fs → (filter_at fs i).number ≡ i
   pub there : (h t : ℕ) → champion map h t < length fs
-  pub few : length fs ≤ 16
+  pub few : length fs ≤ MEMBERS
 
 -- a draft, or a record with a number, of one of so many hosts
 abbrev pub IsOfHosts : ℕ → Item → Type 0

@@ -1,5 +1,6 @@
 -- What a maintainer takes from a queue.
 use Rattle.std.specs.Prelude.{ℕ, ◌^◌, ◌<◌, ◌≤◌, ◌⊎◌, List, All}
+use Rattle.cz_base.specs.declared.limits.TheConstants.{NUMBERS_END}
 use Rattle.causal_deps.specs.declared.record.Record.{Record}
 use Rattle.flstore_rounds.specs.Epochs.{IsPrefix, IsSettled}
 use Rattle.maintainer.specs.Maintainers.{MaintainerState, IsFilled, IsOwn, learned}
@@ -9,7 +10,7 @@ use Rattle.token_queue.specs.Queues.{QueueState, outbox_for, times_among}
 -- maintainer x owns the entry's position, and has nothing there
 pub record MayPlace (x : MaintainerState Record) (e : Entry) : Type 0 where
   pub own : IsOwn x e.lid
-  pub small : e.lid < 2 ^ 48
+  pub small : e.lid < NUMBERS_END
   pub vacant : ¬ IsFilled x e.lid
 
 -- each of the entries may be placed, and no position stands twice

@@ -1,5 +1,6 @@
 -- What a maintainer posts to an indexer.
 use Rattle.std.specs.Prelude.{◌≡◌, ◌⊎◌, ℕ, ◌<◌, ◌≤◌, ◌&&◌, Bool, if◌then◌else◌, nat_le, nat_lt, All}
+use Rattle.cz_base.specs.declared.limits.TheConstants.{MEMBERS}
 use Rattle.std.specs.List.{list_any}
 use Rattle.causal_deps.specs.declared.record.Record.{Record}
 use Rattle.flstore_rounds.specs.Epochs.{IsPrefix, longer, owner}
@@ -18,7 +19,7 @@ post_mark x low = if list_any (λ p. nat_le low p && nat_lt p (mark_of x)) x.gon
 -- The lists are beginnings of one, and no mark is above what the maintainer's adds; by the longer one each entry is of a
 -- position of maintainer m, and it has filled all of them below its mark.
 pub record MayPost (x : MaintainerState Record) (m : ℕ) (i : IndexerState) : Type 0 where
-  pub member : m < 16
+  pub member : m < MEMBERS
   pub known : IsPrefix i.pair.epochs x.epochs ⊎ IsPrefix x.epochs i.pair.epochs
   pub begun : AreBegun i.pair x.epochs
   pub own : All (λ e. owner (longer i.pair.epochs x.epochs) e.lid ≡ m) x.entries

@@ -1,5 +1,6 @@
 -- What the stages of a datacentre show to a session.
 use Rattle.std.specs.Prelude.{◌≡◌, ◌⊎◌, ℕ, ◌^◌, ◌<◌, ◌≤◌, List, length, map, flat_map, Some, None, IsSome, Contains}
+use Rattle.cz_base.specs.declared.limits.TheConstants.{NUMBERS_END}
 use Rattle.causal_deps.specs.declared.record.Record.{Record}
 use Rattle.causal_deps.specs.Logs.{record_at}
 use Rattle.abstract_log.specs.Answers.{newest}
@@ -35,6 +36,6 @@ pub record ShowsLog (v : Pair) (ms : List (MaintainerState Record)) (is : List I
   pub kept : (p : ℕ) (r : Record) → record_kept ms p ≡ Some r → record_at log p ≡ Some r
   pub filled : (p : ℕ) → 1 ≤ p → p ≤ head v → Contains (gone_in ms) p ⊎ IsSome (record_kept ms p)
   pub apart : (p : ℕ) → Contains (gone_in ms) p → record_kept ms p ≡ None
-  pub small : (p : ℕ) → Contains (gone_in ms) p → p < 2 ^ 48
+  pub small : (p : ℕ) → Contains (gone_in ms) p → p < NUMBERS_END
   pub newest : (key : List ℕ) (s p : ℕ) → g.floor ≤ s → s ≤ covered_for (shelf_of v ms is g) key → newest log key s ≡ Some p → IsSome (record_kept ms p)
   pub pins : (n s : ℕ) → pin_of g n ≡ Some s → g.floor ≤ s

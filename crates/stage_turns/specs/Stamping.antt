@@ -1,5 +1,6 @@
 -- What a stamping leaves of the stages that it is lent, what it answers, and its events.
 use Rattle.std.specs.Prelude.{◌≡◌, ◌≢◌, ℕ, ◌+◌, ◌^◌, ◌<◌, ◌==◌, ◌&&◌, ⊤, if◌then◌else◌, List, [], ◌++◌, length, map, All, AllPairs, sum_by}
+use Rattle.cz_base.specs.declared.limits.TheConstants.{NUMBERS_END}
 use Rattle.std.specs.Option.{option_map_or}
 use Rattle.causal_deps.specs.declared.record.Item.{Item}
 use Rattle.causal_deps.specs.declared.record.Item.TheVariants.{Local, External}
@@ -51,7 +52,7 @@ IsNewAt d (External r) = r.host ≢ d
 -- Queue q stamps with token t at datacentre d, whose sessions are xs.
 pub record MayStamp (d : ℕ) (q : QueueState) (t : TokenState) (xs : List Session) : Type 0 where
   pub here : t.dc ≡ d
-  pub lids : t.last + length (drained_of q t).records < 2 ^ 48
+  pub lids : t.last + length (drained_of q t).records < NUMBERS_END
   pub fit : All (FitsItem (length t.counts)) q.items
   pub new : All (IsNewAt d) (items_of q t)
   pub ordered : AllPairs (λ a b. a < b) (numbers_of xs)

@@ -1,5 +1,6 @@
 -- What a sender tells, and what a packet of another datacentre is.
 use Rattle.std.specs.Prelude.{◌≡◌, ℕ, ◌<◌, ◌≤◌, ◌^◌, if◌then◌else◌, nat_lt, List, length, Option, Some, None, All}
+use Rattle.cz_base.specs.declared.limits.TheConstants.{NUMBERS_END}
 use Rattle.causal_deps.specs.Counts.{entry_of}
 use Rattle.causal_deps.specs.declared.record.Record.{Record}
 use Rattle.maintainer.specs.Maintainers.{MaintainerState}
@@ -26,7 +27,7 @@ pub record MayLook (d e senders : ℕ) (ms : List (MaintainerState Record)) (tab
 -- Sender k of them may tell it: the table's counts are in their range, and what it has of its own has a spelling.
 pub record MayTell (d e k senders : ℕ) (ms : List (MaintainerState Record)) (table : List (List ℕ)) : Type 0 where
   pub look : MayLook d e senders ms table
-  pub counts : (i h : ℕ) → entry_of table i h < 2 ^ 48
+  pub counts : (i h : ℕ) → entry_of table i h < NUMBERS_END
   pub own : AreTellable (length table) d (records_in (stock_of ms k senders))
 
 -- the message of sender k of so many at d to e

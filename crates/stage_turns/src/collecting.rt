@@ -1,3 +1,5 @@
+//! The collection floor rises, and a maintainer lets go what may be collected.
+
 ghost use Rattle.std.specs.Prelude.{◌≡◌, ◌<◌, ◌++◌, [], length, fold, map, min, nat_lt, All, IfOk, OnOk, IsOk, IsSome};
 ghost use Rattle.std.specs.List.{AllPairs};
 ghost use Rattle.abstract_log.specs.declared.event.Event.TheVariants.{Collect as CollectEvent};

@@ -1,3 +1,5 @@
+//! What a turn answers.
+
 ghost use Rattle.std.specs.Prelude.{◌≡◌};
 ghost use Rattle.stage_turns.specs.Changing.{has_some};
 
@@ -8,8 +10,11 @@ use cz_base::Seq;
 /// epoch list that a queue, a maintainer or a vector takes over is no change.
 #[derive(Debug, Drop)]
 pub struct TurnDone {
+    /// What the stage line says of the turn.
     pub outcome: Outcome,
+    /// The events of the log that the turn made, in order.
     pub events: Seq<Event>,
+    /// Whether a stage is another one than before.
     pub changed: bool,
 }
 

@@ -1,3 +1,5 @@
+//! The own row of the awareness table takes the counts of the positions up to the head.
+
 ghost use Rattle.std.specs.Prelude.{◌≡◌, ℕ, ◌-◌, ◌<◌, ◌≤◌, ◌↔◌, nat_lt, length, IfOk, IsTrue, OnOk};
 ghost use Rattle.std.specs.Option.{ForSome};
 ghost use Rattle.causal_deps.specs.Counts.{raised_row, row_of};

@@ -1,4 +1,7 @@
+//! A maintainer takes what a queue stamped for it.
+
 ghost use Rattle.std.specs.Prelude.{◌≡◌, ◌<◌, ◌≤◌, [], length, map, IfOk, OnOk};
+ghost use Rattle.cz_base.specs.declared.limits.TheConstants.{MEMBERS};
 ghost use Rattle.abstract_log.specs.declared.script.Outcome.TheVariants.{Placed as PlacedAt};
 ghost use Rattle.maintainer.specs.Maintainers.{learned, moved_in, plain};
 ghost use Rattle.token_queue.specs.Queues.{outbox_for, without_outbox};
@@ -22,7 +25,7 @@ pub fn place(
     m: u32,
     maintainer: &mut Maintainer<Record>,
 ) -> Result<TurnDone, NoMemory>
-    requires member { m < 16 }
+    requires member { m < MEMBERS }
     requires may { MayPlaceFrom queue.old m maintainer.old }
     ensures queue { OnOk result (queue.new ≡ without_outbox queue.old m) }
     ensures maintainer { OnOk result (plain maintainer.new ≡ moved_in (learned (plain maintainer.old) queue.old.epochs) (map slot_of (outbox_for queue.old m))) }

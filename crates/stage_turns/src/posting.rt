@@ -1,3 +1,5 @@
+//! An indexer takes what a maintainer has to post.
+
 ghost use Rattle.std.specs.Prelude.{◌≡◌, ◌+◌, ◌<◌, ◌≤◌, [], filter, map, nat_lt, IfOk, OnOk};
 ghost use Rattle.abstract_log.specs.declared.script.Outcome.TheVariants.{Covered as CoveredAt};
 ghost use Rattle.flstore_rounds.specs.Heads.{head, mark_at};

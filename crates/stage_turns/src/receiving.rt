@@ -1,3 +1,5 @@
+//! A receiver takes a packet from a link.
+
 ghost use Rattle.std.specs.Prelude.{◌≡◌, ◌≤◌, ◌%◌, ◌++◌, [], ◌∷◌, length, map, slice_set, IfOk, OnOk};
 ghost use Rattle.causal_deps.specs.Counts.{greater_rows, IsSquare};
 ghost use Rattle.causal_deps.specs.declared.record.Item.TheVariants.{External};

@@ -1,3 +1,5 @@
+//! The maintainers of a datacentre as the stock of a sender.
+
 ghost use Rattle.std.specs.Prelude.{◌≤◌};
 ghost use Rattle.sender_receiver.specs.Stocks.{IsRisingFrom};
 ghost use Rattle.stage_world.specs.MoreTurns.{stock_of};

@@ -1,3 +1,5 @@
+//! A sender makes its message.
+
 ghost use Rattle.std.specs.Prelude.{◌≡◌, ◌≢◌, ◌↔◌, ◌≤◌, [], false, length, IfOk, IsTrue};
 ghost use Rattle.abstract_log.specs.declared.script.Outcome.TheVariants.{Sent};
 ghost use Rattle.record_codec.specs.Wire.{SpellsMessage};
@@ -20,7 +22,9 @@ use sender_receiver::{Sender, Stock, Told};
 /// What a sender's turn answers, and the packet that goes into the link.
 #[derive(Debug, Drop)]
 pub struct SendDone {
+    /// The answer, as if the link were empty.
     pub done: TurnDone,
+    /// The message as bytes, still to go into the link.
     pub packet: Packet,
 }
 

@@ -1,4 +1,7 @@
+//! The maintainers, vectors, indexers and floor of a datacentre as the shelf of a session.
+
 ghost use Rattle.std.specs.Prelude.{◌≡◌, ◌↔◌, ◌^◌, ◌<◌, ◌≤◌, ℕ, Contains, IsTrue};
+ghost use Rattle.cz_base.specs.declared.limits.TheConstants.{NUMBERS_END};
 ghost use Rattle.std.specs.Option.{option_copied};
 ghost use Rattle.std.specs.List.{list_any};
 ghost use Rattle.maintainer.specs.Maintainers.{is_some_within, value_at};
@@ -91,7 +94,7 @@ fn kept(maintainer: &Maintainer<Record>, lid: Lid) -> Option<&Record>
 
 // Whether one of the maintainers has let the position go.
 fn has_gone(maintainers: &[Maintainer<Record>], lid: Lid) -> bool
-    requires { (p : ℕ) → Contains (gone_in maintainers.now) p → p < 2 ^ 48 }
+    requires { (p : ℕ) → Contains (gone_in maintainers.now) p → p < NUMBERS_END }
     ensures { IsTrue result ↔ Contains (gone_in maintainers.now) lid }
 {
     has_gone_within(maintainers, lid, lid.saturating_add(1))

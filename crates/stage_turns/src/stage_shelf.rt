@@ -1,3 +1,5 @@
+//! What a shelf is made of.
+
 ghost use Rattle.hyksos.specs.Shelves.{IsShelf};
 ghost use Rattle.stage_turns.specs.Shelves.{shelf_of};
 

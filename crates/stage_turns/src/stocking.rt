@@ -1,3 +1,5 @@
+//! Which records of the maintainers a sender may send.
+
 ghost use Rattle.std.specs.Prelude.{◌≡◌, filter, find, nat_lt};
 ghost use Rattle.std.specs.Option.{option_copied, option_map};
 ghost use Rattle.maintainer.specs.Maintainers.{AreRising};

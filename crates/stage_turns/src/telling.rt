@@ -1,4 +1,7 @@
+//! A maintainer tells its mark to a vector.
+
 ghost use Rattle.std.specs.Prelude.{◌≡◌, ◌↔◌, ◌<◌, [], length, IfOk, IsTrue, OnOk};
+ghost use Rattle.cz_base.specs.declared.limits.TheConstants.{MEMBERS};
 ghost use Rattle.abstract_log.specs.declared.script.Outcome.TheVariants.{Head as HeadAt};
 ghost use Rattle.flstore_rounds.specs.Heads.{head};
 ghost use Rattle.stage_world.specs.Stages.{vector_at};
@@ -9,6 +12,7 @@ ghost use Rattle.stage_turns.specs.Telling.{MayGossip, own_vector, vectors_told}
 use crate::TurnDone;
 use abstract_log::Outcome;
 use causal_deps::Record;
+use cz_base::limits::MEMBERS;
 use cz_base::{Lid, NoMemory, Seq};
 use head_gossip::Vector;
 use maintainer::Maintainer;
@@ -22,7 +26,7 @@ pub fn gossip(
     from: u32,
     to: u32,
 ) -> Result<TurnDone, NoMemory>
-    requires member { m < 16 }
+    requires member { m < MEMBERS }
     requires may { MayGossip maintainer.old vectors.old from to }
     ensures maintainer { maintainer.new ≡ maintainer.old }
     ensures vectors { OnOk result (vectors.new ≡ vectors_told vectors.old from to (own_vector m maintainer.old vectors.old from)) }
@@ -48,14 +52,14 @@ pub fn gossip(
 }
 
 // The marks of the vector at a place.
-fn marks_at(vectors: &Seq<Vector>, at: u32) -> [Lid; 16]
+fn marks_at(vectors: &Seq<Vector>, at: u32) -> [Lid; MEMBERS]
     requires { at < length vectors.now }
     ensures { result ≡ (vector_at vectors.now at).marks }
 {
     *vectors.as_slice()[at as usize].marks()
 }
 
-fn is_same(a: &[Lid; 16], b: &[Lid; 16]) -> bool
+fn is_same(a: &[Lid; MEMBERS], b: &[Lid; MEMBERS]) -> bool
     ensures { IsTrue result ↔ (a.now ≡ b.now) }
 {
     a == b

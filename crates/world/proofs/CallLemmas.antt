@@ -14,7 +14,7 @@ use Rattle.stage_world.specs.Turns.{Turned, quiet, where_there}
 use Rattle.stage_world.specs.Idle.{TellsApart, apart_from_epochs}
 use Rattle.stage_world.specs.Schedules.{turn_of}
 use Rattle.stage_turns.specs.declared.done.TurnDone.{TurnDone}
-use Rattle.datacentre.specs.Seen.{DatacentreState}
+use Rattle.datacentre.specs.Seen.{DatacentreState, StandsForALog}
 use Rattle.datacentre.specs.Turning.{Sends, TakesTurn}
 use Rattle.world.specs.Showing.{HasSent, HasTurned, IsSeenAt}
 
@@ -34,6 +34,13 @@ not_changed true old new same tells = absurd (tells.other refl same)
 
 abbrev at : ℕ → Datacentre → DatacentreState
 at d z = record { dc = d; stages = Some z }
+
+-- the stages of datacentre d are one
+pub same_seen : (d : ℕ) (y z : Datacentre) (old : List DatacentreState) → IsSeenAt d y old → IsSeenAt d z old → y ≡ z
+same_seen d y z old one other = same (ap (λ (s : DatacentreState). s.stages) (sym (one.is (at d y)) ∙ other.is (at d y)))
+  where
+    same : Some y ≡ Some z → y ≡ z
+    same is = cc
 
 module _ (d i : ℕ) (z : Datacentre) (old : List DatacentreState) (item : DatacentreState) (same : i ≡ d) (here : item ≡ get_or old i item) (seen : IsSeenAt d z old) where
   -- the one that was lent
@@ -77,5 +84,6 @@ module _ (d i : ℕ) (z : Datacentre) (old : List DatacentreState) (item : Datac
       turned_ok (receive_turn d z a m) r new
       (subst (λ (s : DatacentreState). ForSome s.stages (λ x. (n : Message) → SpellsMessage (length x.table) packet n → TakesTurn s.dc x (receive_turn s.dc x a n) r new)) item_is f z refl m spelled)
 
-  pub has_receiver_is : (a : ℕ) (sizes : Sizes) → ForSome item.stages (λ x. sizes ≡ sizes_of x) → ltb a sizes.receivers ≡ ltb a z.receivers
-  has_receiver_is a sizes f = ap (λ (s : Sizes). ltb a s.receivers) (subst (λ (s : DatacentreState). ForSome s.stages (λ x. sizes ≡ sizes_of x)) item_is f z refl)
+  pub has_receiver_is : (a : ℕ) (sizes : Sizes) → StandsForALog d z → ForSome item.stages (λ x. StandsForALog item.dc x → sizes ≡ sizes_of x) → ltb a sizes.receivers ≡ ltb a z.receivers
+  has_receiver_is a sizes log f =
+      ap (λ (s : Sizes). ltb a s.receivers) (subst (λ (s : DatacentreState). ForSome s.stages (λ x. StandsForALog s.dc x → sizes ≡ sizes_of x)) item_is f z refl log)

@@ -23,7 +23,7 @@ use Rattle.stage_world.specs.Whole.{datacentre_at, link_at, nowhere_at}
 use Rattle.stage_world.specs.Idle.{TellsChange, apart_from_epochs, moves_packet}
 use Rattle.datacentre.specs.Seen.{DatacentreState}
 use Rattle.stage_turns.specs.declared.done.TurnDone.{TurnDone}
-use Rattle.world.specs.declared.sites.Sites.{Sites}
+use Rattle.world.specs.declared.network.Network.{Network}
 use Rattle.world.specs.Links.{is_copied, packets_at}
 use Rattle.world.specs.Showing.{HasSent, Shows, TellsIdle, uses_link}
 use Rattle.world.proofs.MovingLemmas.{own_is, packet_is}
@@ -121,10 +121,10 @@ found_same : (dcs : ℕ) (o : Option Message) → is_some (option_map (message_b
 found_same dcs None = refl
 found_same dcs (Some m) = refl
 
-pub found_is : (dcs : ℕ) (z : Stages) (old : Sites) (d e k : ℕ) → Shows dcs z old → is_some (message_at (packets_at old.links d e) k) ≡ is_some (message_at (link_at z d e) k)
+pub found_is : (dcs : ℕ) (z : Stages) (old : Network) (d e k : ℕ) → Shows dcs z old → is_some (message_at (packets_at old.links d e) k) ≡ is_some (message_at (link_at z d e) k)
 found_is dcs z old d e k h = ap is_some (packet_is dcs z old d e k h) ∙ found_same dcs (message_at (link_at z d e) k)
 
-pub delivered_told : (load : Workload) (z : Stages) (old : Sites) (d e k r : ℕ) (found changed : Bool) → Shows load.dcs z old → ltb r (datacentre_at z e).receivers ≡ true → is_some (message_at (packets_at old.links d e) k) ≡ found → changed ≡ found
+pub delivered_told : (load : Workload) (z : Stages) (old : Network) (d e k r : ℕ) (found changed : Bool) → Shows load.dcs z old → ltb r (datacentre_at z e).receivers ≡ true → is_some (message_at (packets_at old.links d e) k) ≡ found → changed ≡ found
     → TellsIdle load z (Deliver d e k r) changed
 delivered_told load z old d e k r found changed h there is tells =
     let here : is_some (message_at (link_at z d e) k) ≡ found = sym (found_is load.dcs z old d e k h) ∙ is in
@@ -135,12 +135,12 @@ delivered_told load z old d e k r found changed h there is tells =
 
 -- Lose and copy
 
-pub lost_told : (load : Workload) (z : Stages) (old : Sites) (d e k : ℕ) (changed : Bool) → Shows load.dcs z old → changed ≡ is_some (message_at (packets_at old.links d e) k) → TellsIdle load z (Lose d e k) changed
+pub lost_told : (load : Workload) (z : Stages) (old : Network) (d e k : ℕ) (changed : Bool) → Shows load.dcs z old → changed ≡ is_some (message_at (packets_at old.links d e) k) → TellsIdle load z (Lose d e k) changed
 lost_told load z old d e k changed h tells =
     packet_told load z (Lose d e k) Absent (is_some (message_at (link_at z d e) k)) changed (tells ∙ found_is load.dcs z old d e k h) refl
     (λ no. ap (λ o. option_map_or (λ m. still Lost (with_link z d e (without (link_at z d e) k))) o (still Absent z)) (stays_there z d e k 0 (message_at (link_at z d e) k) no))
 
-pub copied_told : (load : Workload) (z : Stages) (old : Sites) (d e k : ℕ) (changed : Bool) → Shows load.dcs z old → changed ≡ is_some (message_at (packets_at old.links d e) k) → TellsIdle load z (Copy d e k) changed
+pub copied_told : (load : Workload) (z : Stages) (old : Network) (d e k : ℕ) (changed : Bool) → Shows load.dcs z old → changed ≡ is_some (message_at (packets_at old.links d e) k) → TellsIdle load z (Copy d e k) changed
 copied_told load z old d e k changed h tells =
     packet_told load z (Copy d e k) Absent (is_some (message_at (link_at z d e) k)) changed (tells ∙ found_is load.dcs z old d e k h) refl
     (λ no. ap (λ o. option_map_or (λ m. still (Copied (link_length (put_in_link z d e m) d e) (has_lost z d e)) (put_in_link z d e m)) o (still Absent z)) (stays_there z d e k 0 (message_at (link_at z d e) k) no))

@@ -18,13 +18,18 @@ use Rattle.stage_world.specs.Settling.{Errand, below, errands, has_unanswered, i
 use Rattle.datacentre.specs.Seen.{DatacentreState, StandsForALog}
 use Rattle.world.specs.Settled.{AreKnown, IsKnown, errands_from}
 use Rattle.world.specs.Taking.{HasTaken, IsTaken, StagesState, Taken, stages_after}
-use Rattle.world.proofs.SiteLemmas.{length-states, states_at}
+use Rattle.world.proofs.NetworkLemmas.{length-states, states_at}
 use Rattle.world.proofs.TakingLemmas.{run_of}
 use Rattle.world.proofs.RoundLemmas.{take_all}
 
 -- what is said of its stages, if there are some, is true of them
 pub told : (P : Datacentre → Type 0) (d : ℕ) (z : Datacentre) (x : DatacentreState) → IsKnown d z x → ForSome x.stages P → P z
 told P d z x known is = is z (ap (λ (s : DatacentreState). s.stages) known.is)
+
+-- what is said of them where they stand for a log, too
+pub told_log : (P : Datacentre → Type 0) (d : ℕ) (z : Datacentre) (x : DatacentreState) → IsKnown d z x → ForSome x.stages (λ y. StandsForALog x.dc y → P y) → P z
+told_log P d z x known is =
+    is z (ap (λ (s : DatacentreState). s.stages) known.is) (subst (λ n. StandsForALog n z) (sym (ap (λ (s : DatacentreState). s.dc) known.is)) known.log)
 
 -- so it may be asked
 pub asks : (d : ℕ) (z : Datacentre) (x : DatacentreState) → IsKnown d z x → ForSome x.stages (StandsForALog x.dc)
@@ -50,7 +55,7 @@ module _ (z : Stages) (xs : List DatacentreState) (known : AreKnown z xs) where
         log = record { world = known.world; lawful = known.lawful; stands = known.stands.each d (omega (arith, inside, known.stands.size)) };
       }
 
-pub known_of : (script : Script) (ts : List Taken) (s : StagesState) → HasTaken script ts s → AreKnown (stages_after script ts) s.sites.datacentres
+pub known_of : (script : Script) (ts : List Taken) (s : StagesState) → HasTaken script ts s → AreKnown (stages_after script ts) s.network.datacentres
 known_of script ts s h =
     let run = run_of script ts s h in
     record {
@@ -61,7 +66,7 @@ known_of script ts s h =
       few = omega (arith, h.shown.count, h.fits.limits.workload.few);
     }
 
-pub known_some : (s : StagesState) → IsTaken s → (z : Stages) × AreKnown z s.sites.datacentres
+pub known_some : (s : StagesState) → IsTaken s → (z : Stages) × AreKnown z s.network.datacentres
 known_some s h = (stages_after h.script h.turns, known_of h.script h.turns s h.taken)
 
 -- Tests of each of them, one after another: what is known of the first so many, and of all
@@ -138,6 +143,9 @@ module _ (z : Stages) (xs : List DatacentreState) (known : AreKnown z xs) (d i :
   pub told_letter : (P : Datacentre → Type 0) → ForSome x.stages P → P (datacentre_at z d)
   told_letter P f = told P d (datacentre_at z d) x lettered f
 
+  pub told_letter_log : (P : Datacentre → Type 0) → ForSome x.stages (λ y. StandsForALog x.dc y → P y) → P (datacentre_at z d)
+  told_letter_log P f = told_log P d (datacentre_at z d) x lettered f
+
   pub more_letter : (k to : ℕ) (b : Bool) → ForSome x.stages (λ y. IsTrue b ↔ ((message_of x.dc y k to).records ≢ [])) → b ≡ nat_lt 0 (length (message_of d (datacentre_at z d) k to).records)
   more_letter k to b f =
       some_if b (message_of d (datacentre_at z d) k to).records
@@ -152,10 +160,10 @@ errands_are z d i dcs sizes same is = ap (λ (s : Sizes). errands_from d dcs s.s
 pub few_dcs : (s : StagesState) → IsTaken s → s.workload.dcs ≤ 8
 few_dcs s h = subst (λ (l : Workload). l.dcs ≤ 8) (sym h.taken.workload) h.taken.fits.limits.workload.few
 
-pub count_there : (s : StagesState) → IsTaken s → length s.sites.datacentres ≡ s.workload.dcs
+pub count_there : (s : StagesState) → IsTaken s → length s.network.datacentres ≡ s.workload.dcs
 count_there s h =
     let known = known_of h.script h.turns s h.taken in
-    count_known (stages_after h.script h.turns) s.sites.datacentres known ∙ h.taken.shown.count ∙ ap (λ (l : Workload). l.dcs) (sym h.taken.workload)
+    count_known (stages_after h.script h.turns) s.network.datacentres known ∙ h.taken.shown.count ∙ ap (λ (l : Workload). l.dcs) (sym h.taken.workload)
 
 -- what was asked of each number below the last was asked of all
 

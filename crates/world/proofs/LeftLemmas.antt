@@ -9,7 +9,7 @@ use Rattle.stage_world.specs.StandsFor.{StandsAt}
 use Rattle.stage_world.specs.Whole.{StandsFor, nowhere_at}
 use Rattle.datacentre.specs.Leaving.{IsLeftBy}
 use Rattle.datacentre.specs.Seen.{DatacentreState}
-use Rattle.world.specs.declared.sites.Sites.{Sites}
+use Rattle.world.specs.declared.network.Network.{Network}
 use Rattle.world.specs.Showing.{Shows, states_from}
 
 -- one more leaves its part
@@ -35,8 +35,8 @@ left_from w n (z ∷ zs) (l ∷ ls) all stands =
     ap₂ (λ (x : LeftAt) (xs : List LeftAt). x ∷ xs) (all.0 w (subst (λ d. StandsAt w d z) (zero-plus n) (stands 0 (omega arith))))
     (left_from w (n + 1) zs ls all.1 (λ k low. subst (λ d. StandsAt w d (get_or zs k nowhere_at)) (omega arith) (stands (suc k) (omega (arith, low)))))
 
-pub left_of_all : (w : World) (z : Stages) (sites : Sites) (left : List LeftAt) → Shows w.workload.dcs z sites → StandsFor w z → AllZip IsLeftBy sites.datacentres left → left ≡ left_of w
-left_of_all w z sites left shown stands all =
+pub left_of_all : (w : World) (z : Stages) (network : Network) (left : List LeftAt) → Shows w.workload.dcs z network → StandsFor w z → AllZip IsLeftBy network.datacentres left → left ≡ left_of w
+left_of_all w z network left shown stands all =
     left_from w 0 z.datacentres left (subst (λ xs. AllZip IsLeftBy xs left) shown.datacentres all)
     (λ k low. subst (λ d. StandsAt w d (get_or z.datacentres k nowhere_at)) (omega arith) (stands.each k (omega (arith, low, shown.count))))
     ∙ ap (λ n. map (left_at w) (range_with_len 0 n)) shown.count

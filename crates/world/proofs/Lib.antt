@@ -1,7 +1,7 @@
 pub mod CallLemmas
 pub mod LinkLemmas
 pub mod OpeningLemmas
-pub mod SiteLemmas
+pub mod NetworkLemmas
 pub mod LeftLemmas
 pub mod TakingLemmas
 pub mod MovingLemmas

@@ -30,18 +30,18 @@ use Rattle.stage_turns.specs.declared.done.TurnDone.{TurnDone}
 use Rattle.datacentre.specs.Seen.{StandsForALog}
 use Rattle.datacentre.specs.Turning.{IsBuilt}
 use Rattle.stage_turns.proofs.ToldLemmas.{links_spelled}
-use Rattle.world.specs.declared.sites.Sites.{Sites}
+use Rattle.world.specs.declared.network.Network.{Network}
 use Rattle.world.specs.Links.{AreThere, copy_outcome, lose_outcome, outcome_of_copy, packets_at, with_packets}
 use Rattle.world.specs.Showing.{HasMoved, HasSent, HasTurned, IsBuiltStep, IsSeenAt, MayReceiveAt, MaySendAt, MayStep, MayTurnAt, Shows, packets_of, uses_link}
 use Rattle.world.proofs.LinkLemmas.{has_lost-map, message_at-map, packets_at_is, put_last-map, with_same, without-map, without_none}
-use Rattle.world.proofs.SiteLemmas.{datacentres_there, rows_there, shows_link, shows_turn, state_there}
+use Rattle.world.proofs.NetworkLemmas.{datacentres_there, rows_there, shows_link, shows_turn, state_there}
 
 -- what the code finds of stages that it shows
 
-pub seen_at : (dcs : ℕ) (z : Stages) (old : Sites) (d : ℕ) → Shows dcs z old → d < dcs → IsSeenAt d (datacentre_at z d) old.datacentres
+pub seen_at : (dcs : ℕ) (z : Stages) (old : Network) (d : ℕ) → Shows dcs z old → d < dcs → IsSeenAt d (datacentre_at z d) old.datacentres
 seen_at dcs z old d h within = record { there = omega (arith, within, datacentres_there dcs z old h); is = λ other. state_there dcs z old h d other within }
 
-pub links_there : (dcs : ℕ) (z : Stages) (old : Sites) (d e : ℕ) → Shows dcs z old → d < dcs → e < dcs → AreThere d e old.links
+pub links_there : (dcs : ℕ) (z : Stages) (old : Network) (d e : ℕ) → Shows dcs z old → d < dcs → e < dcs → AreThere d e old.links
 links_there dcs z old d e h in_d in_e =
     let P : List (List Message) → List (List (List ℕ)) = λ (r : List (List Message)). map (packets_of dcs) r in
     let wide : length (get_or z.links d []) ≡ dcs = All-get_or (λ (r : List (List Message)). length r ≡ dcs) z.links d [] (omega (arith, in_d, h.rows)) h.columns in
@@ -50,7 +50,7 @@ links_there dcs z old d e h in_d in_e =
     record { from = omega (arith, in_d, rows_there dcs z old h); to = omega (arith, in_e, row) }
 
 -- the packets of a link
-packets_are : (dcs : ℕ) (z : Stages) (old : Sites) (d e : ℕ) → Shows dcs z old → packets_at old.links d e ≡ packets_of dcs (link_at z d e)
+packets_are : (dcs : ℕ) (z : Stages) (old : Network) (d e : ℕ) → Shows dcs z old → packets_at old.links d e ≡ packets_of dcs (link_at z d e)
 packets_are dcs z old d e h = ap (λ ls. packets_at ls d e) h.links ∙ packets_at_is dcs z.links d e
 
 -- A step of a stage of one datacentre
@@ -129,7 +129,7 @@ built_here z (AddQueue _) built own = built
 built_here z (AddSender _) built own = built
 built_here z (AddReceiver _) built own = built
 
-module _ (load : Workload) (step : Step) (z : Stages) (old : Sites) (may : MayStep load step z old) where
+module _ (load : Workload) (step : Step) (z : Stages) (old : Network) (may : MayStep load step z old) where
   dcs_same : may.world.workload.dcs ≡ load.dcs
   dcs_same = ap (λ (l : Workload). l.dcs) may.same
 
@@ -157,7 +157,7 @@ module _ (load : Workload) (step : Step) (z : Stages) (old : Sites) (may : MaySt
         built = built_here (datacentre_at z d) step may.built own;
       }
 
-turned_at : (dcs : ℕ) (z : Stages) (old new : Sites) (d : ℕ) (turned : Turned) (done : TurnDone) → Shows dcs z old → new.links ≡ old.links → HasTurned d (datacentre_at z d) turned old.datacentres new.datacentres done
+turned_at : (dcs : ℕ) (z : Stages) (old new : Network) (d : ℕ) (turned : Turned) (done : TurnDone) → Shows dcs z old → new.links ≡ old.links → HasTurned d (datacentre_at z d) turned old.datacentres new.datacentres done
     → HasMoved dcs (moved_at z d turned) new done
 turned_at dcs z old new d turned done h links is = record {
   shown = shows_turn dcs z old h d turned.after new is.datacentres links;
@@ -165,7 +165,7 @@ turned_at dcs z old new d turned done h links is = record {
   events = is.events;
 }
 
-pub own_moves : (load : Workload) (z : Stages) (old new : Sites) (step : Step) (d : ℕ) (done : TurnDone) → Shows load.dcs z old → uses_link step ≡ false → d ≡ place_of_step load step → new.links ≡ old.links
+pub own_moves : (load : Workload) (z : Stages) (old new : Network) (step : Step) (d : ℕ) (done : TurnDone) → Shows load.dcs z old → uses_link step ≡ false → d ≡ place_of_step load step → new.links ≡ old.links
     → HasTurned d (datacentre_at z d) (turn_of d (datacentre_at z d) step) old.datacentres new.datacentres done → HasMoved load.dcs (step_of load z step) new done
 own_moves load z old new step d done h own at links is =
     subst (λ m. HasMoved load.dcs m new done) (sym (own_is load z step own))
@@ -173,7 +173,7 @@ own_moves load z old new step d done h own at links is =
 
 -- A turn that leaves all as it was
 
-still_moves : (dcs : ℕ) (z : Stages) (old new : Sites) (o : Outcome) (done : TurnDone) → Shows dcs z old → new.datacentres ≡ old.datacentres → new.links ≡ old.links → done.outcome ≡ o → done.events ≡ []
+still_moves : (dcs : ℕ) (z : Stages) (old new : Network) (o : Outcome) (done : TurnDone) → Shows dcs z old → new.datacentres ≡ old.datacentres → new.links ≡ old.links → done.outcome ≡ o → done.events ≡ []
     → HasMoved dcs (still o z) new done
 still_moves dcs z old new o done h datacentres links outcome events = record {
   shown = record { datacentres = datacentres ∙ h.datacentres; links = links ∙ h.links; count = h.count; rows = h.rows; columns = h.columns };
@@ -183,7 +183,7 @@ still_moves dcs z old new o done h datacentres links outcome events = record {
 
 -- A send
 
-pub may_send : (load : Workload) (d k e : ℕ) (z : Stages) (old : Sites) → MayStep load (Send d k e) z old → MaySendAt d e old.datacentres
+pub may_send : (load : Workload) (d k e : ℕ) (z : Stages) (old : Network) → MayStep load (Send d k e) z old → MaySendAt d e old.datacentres
 may_send load d k e z old may = record {
   stages = datacentre_at z d;
   seen = seen_at load.dcs z old d may.shown may.fits.first;
@@ -192,27 +192,27 @@ may_send load d k e z old may = record {
 }
 
 -- a message goes into a link
-put_moves : (dcs : ℕ) (z : Stages) (old new : Sites) (d e : ℕ) (m : Message) → Shows dcs z old → d < dcs → new.datacentres ≡ old.datacentres
+put_moves : (dcs : ℕ) (z : Stages) (old new : Network) (d e : ℕ) (m : Message) → Shows dcs z old → d < dcs → new.datacentres ≡ old.datacentres
     → new.links ≡ with_packets old.links d e (put_last (packets_at old.links d e) (message_bytes dcs m)) → Shows dcs (put_in_link z d e m) new
 put_moves dcs z old new d e m h within datacentres links =
     shows_link dcs z old h d e (put_last (link_at z d e) m) new within datacentres
     (links ∙ ap (λ ps. with_packets old.links d e (put_last ps (message_bytes dcs m))) (packets_are dcs z old d e h) ∙ ap (with_packets old.links d e) (put_last-map (message_bytes dcs) (link_at z d e) m))
 
-pub length_are : (dcs : ℕ) (z : Stages) (new : Sites) (d e : ℕ) → Shows dcs z new → length (packets_at new.links d e) ≡ link_length z d e
+pub length_are : (dcs : ℕ) (z : Stages) (new : Network) (d e : ℕ) → Shows dcs z new → length (packets_at new.links d e) ≡ link_length z d e
 length_are dcs z new d e h = ap length (packets_are dcs z new d e h) ∙ length-map (link_at z d e) (message_bytes dcs)
 
-lost_are : (dcs : ℕ) (z : Stages) (old : Sites) (d e : ℕ) → Shows dcs z old → is_some (lost_by_put (packets_at old.links d e)) ≡ has_lost z d e
+lost_are : (dcs : ℕ) (z : Stages) (old : Network) (d e : ℕ) → Shows dcs z old → is_some (lost_by_put (packets_at old.links d e)) ≡ has_lost z d e
 lost_are dcs z old d e h = ap (λ ps. is_some (lost_by_put ps)) (packets_are dcs z old d e h) ∙ has_lost-map (message_bytes dcs) (link_at z d e)
 
 -- What the code does with what was sent: what is put where, and what is answered.
-pub record IsPut (d e : ℕ) (old new : Sites) (first : TurnDone) (packet : Option (List ℕ)) (done : TurnDone) : Type 0 where
+pub record IsPut (d e : ℕ) (old new : Network) (first : TurnDone) (packet : Option (List ℕ)) (done : TurnDone) : Type 0 where
   pub same : packet ≡ None → (new.links ≡ old.links) × (done ≡ first)
   pub links : ForSome packet (λ bytes. new.links ≡ with_packets old.links d e (put_last (packets_at old.links d e) bytes))
   pub outcome : ForSome packet (λ bytes. (names : List (ℕ × ℕ)) → first.outcome ≡ Sent names 0 false
       → done.outcome ≡ Sent names (length (packets_at new.links d e)) (is_some (lost_by_put (packets_at old.links d e))))
   pub events : done.events ≡ first.events
 
-pub send_moves : (load : Workload) (z : Stages) (old new : Sites) (d k e : ℕ) (first : TurnDone) (packet : Option (List ℕ)) (done : TurnDone) → Shows load.dcs z old → d < load.dcs
+pub send_moves : (load : Workload) (z : Stages) (old new : Network) (d k e : ℕ) (first : TurnDone) (packet : Option (List ℕ)) (done : TurnDone) → Shows load.dcs z old → d < load.dcs
     → length (datacentre_at z d).table ≡ load.dcs → HasSent d k e (datacentre_at z d) old.datacentres new.datacentres (first, packet) → IsPut d e old new first packet done
     → HasMoved load.dcs (step_of load z (Send d k e)) new done
 send_moves load z old new d k e first None done h within rows sent is =
@@ -237,7 +237,7 @@ send_moves load z old new d k e first (Some p) done h within rows sent is =
 
 -- A message that is lost, and one that is copied
 
-lose_at : (dcs : ℕ) (z : Stages) (old new : Sites) (d e k : ℕ) (done : TurnDone) (o : Option Message) → message_at (link_at z d e) k ≡ o → Shows dcs z old → d < dcs → new.datacentres ≡ old.datacentres
+lose_at : (dcs : ℕ) (z : Stages) (old new : Network) (d e k : ℕ) (done : TurnDone) (o : Option Message) → message_at (link_at z d e) k ≡ o → Shows dcs z old → d < dcs → new.datacentres ≡ old.datacentres
     → new.links ≡ with_packets old.links d e (packets_of dcs (without (link_at z d e) k)) → done.outcome ≡ lose_outcome (option_map (message_bytes dcs) o) → done.events ≡ []
     → HasMoved dcs (option_map_or (λ m. still Lost (with_link z d e (without (link_at z d e) k))) o (still Absent z)) new done
 lose_at dcs z old new d e k done None none h within datacentres links outcome events =
@@ -251,16 +251,16 @@ lose_at dcs z old new d e k done (Some m) is h within datacentres links outcome 
 }
 
 -- the links without a packet
-taken_out : (dcs : ℕ) (z : Stages) (old new : Sites) (d e k : ℕ) → Shows dcs z old → new.links ≡ with_packets old.links d e (without (packets_at old.links d e) k)
+taken_out : (dcs : ℕ) (z : Stages) (old new : Network) (d e k : ℕ) → Shows dcs z old → new.links ≡ with_packets old.links d e (without (packets_at old.links d e) k)
     → new.links ≡ with_packets old.links d e (packets_of dcs (without (link_at z d e) k))
 taken_out dcs z old new d e k h links =
     links ∙ ap (λ ps. with_packets old.links d e (without ps k)) (packets_are dcs z old d e h) ∙ ap (with_packets old.links d e) (without-map (message_bytes dcs) (link_at z d e) k)
 
 -- the packet at a place
-pub packet_is : (dcs : ℕ) (z : Stages) (old : Sites) (d e k : ℕ) → Shows dcs z old → message_at (packets_at old.links d e) k ≡ option_map (message_bytes dcs) (message_at (link_at z d e) k)
+pub packet_is : (dcs : ℕ) (z : Stages) (old : Network) (d e k : ℕ) → Shows dcs z old → message_at (packets_at old.links d e) k ≡ option_map (message_bytes dcs) (message_at (link_at z d e) k)
 packet_is dcs z old d e k h = ap (λ ps. message_at ps k) (packets_are dcs z old d e h) ∙ message_at-map (message_bytes dcs) (link_at z d e) k
 
-pub lose_moves : (load : Workload) (z : Stages) (old new : Sites) (d e k : ℕ) (done : TurnDone) → Shows load.dcs z old → d < load.dcs → new.datacentres ≡ old.datacentres
+pub lose_moves : (load : Workload) (z : Stages) (old new : Network) (d e k : ℕ) (done : TurnDone) → Shows load.dcs z old → d < load.dcs → new.datacentres ≡ old.datacentres
     → new.links ≡ with_packets old.links d e (without (packets_at old.links d e) k) → done.outcome ≡ lose_outcome (message_at (packets_at old.links d e) k) → done.events ≡ []
     → HasMoved load.dcs (step_of load z (Lose d e k)) new done
 lose_moves load z old new d e k done h within datacentres links outcome events =
@@ -274,7 +274,7 @@ copied_as : (o : Option (List ℕ)) (n : ℕ) → outcome_of_copy (option_map_or
 copied_as None n = refl
 copied_as (Some p) n = refl
 
-copy_at : (dcs : ℕ) (z : Stages) (old new : Sites) (d e k : ℕ) (done : TurnDone) (o : Option Message) → message_at (packets_at old.links d e) k ≡ option_map (message_bytes dcs) o → Shows dcs z old → d < dcs
+copy_at : (dcs : ℕ) (z : Stages) (old new : Network) (d e k : ℕ) (done : TurnDone) (o : Option Message) → message_at (packets_at old.links d e) k ≡ option_map (message_bytes dcs) o → Shows dcs z old → d < dcs
     → new.datacentres ≡ old.datacentres → new.links ≡ with_packets old.links d e (copied (packets_at old.links d e) k)
     → done.outcome ≡ copy_outcome (packets_at old.links d e) k (length (packets_at new.links d e)) → done.events ≡ []
     → HasMoved dcs (option_map_or (λ m. still (Copied (link_length (put_in_link z d e m) d e) (has_lost z d e)) (put_in_link z d e m)) o (still Absent z)) new done
@@ -294,7 +294,7 @@ copy_at dcs z old new d e k done (Some m) is h within datacentres links outcome 
       events = events;
     }
 
-pub copy_moves : (load : Workload) (z : Stages) (old new : Sites) (d e k : ℕ) (done : TurnDone) → Shows load.dcs z old → d < load.dcs → new.datacentres ≡ old.datacentres
+pub copy_moves : (load : Workload) (z : Stages) (old new : Network) (d e k : ℕ) (done : TurnDone) → Shows load.dcs z old → d < load.dcs → new.datacentres ≡ old.datacentres
     → new.links ≡ with_packets old.links d e (copied (packets_at old.links d e) k) → done.outcome ≡ copy_outcome (packets_at old.links d e) k (length (packets_at new.links d e)) → done.events ≡ []
     → HasMoved load.dcs (step_of load z (Copy d e k)) new done
 copy_moves load z old new d e k done h within datacentres links outcome events =
@@ -303,18 +303,18 @@ copy_moves load z old new d e k done h within datacentres links outcome events =
 -- A message that is delivered
 
 -- a datacentre of stages that may take the step may be asked
-pub may_ask : (load : Workload) (step : Step) (z : Stages) (old : Sites) (d : ℕ) → MayStep load step z old → d < load.dcs → (y : Datacentre) × IsSeenAt d y old.datacentres × StandsForALog d y
+pub may_ask : (load : Workload) (step : Step) (z : Stages) (old : Network) (d : ℕ) → MayStep load step z old → d < load.dcs → (y : Datacentre) × IsSeenAt d y old.datacentres × StandsForALog d y
 may_ask load step z old d may within = (datacentre_at z d, seen_at load.dcs z old d may.shown within, log_there load step z old may d within)
 
 -- the receiver is not there
-pub deliver_absent : (load : Workload) (z : Stages) (old : Sites) (d e k r : ℕ) (done : TurnDone) → Shows load.dcs z old → ltb r (datacentre_at z e).receivers ≡ false → done ≡ record { outcome = Absent; events = []; changed = false }
+pub deliver_absent : (load : Workload) (z : Stages) (old : Network) (d e k r : ℕ) (done : TurnDone) → Shows load.dcs z old → ltb r (datacentre_at z e).receivers ≡ false → done ≡ record { outcome = Absent; events = []; changed = false }
     → HasMoved load.dcs (step_of load z (Deliver d e k r)) old done
 deliver_absent load z old d e k r done h none is =
     subst (λ m. HasMoved load.dcs m old done) (sym (cond-false (ltb r (datacentre_at z e).receivers) (deliver_turn z d e k r) (still Absent z) none))
     (still_moves load.dcs z old old Absent done h refl refl (ap (λ (x : TurnDone). x.outcome) is) (ap (λ (x : TurnDone). x.events) is))
 
 -- there is no such message
-deliver_none : (dcs : ℕ) (z : Stages) (old new : Sites) (d e k r : ℕ) (done : TurnDone) (o : Option Message) → message_at (link_at z d e) k ≡ o → None ≡ option_map (message_bytes dcs) o → Shows dcs z old
+deliver_none : (dcs : ℕ) (z : Stages) (old new : Network) (d e k r : ℕ) (done : TurnDone) (o : Option Message) → message_at (link_at z d e) k ≡ o → None ≡ option_map (message_bytes dcs) o → Shows dcs z old
     → new.datacentres ≡ old.datacentres → new.links ≡ with_packets old.links d e (packets_of dcs (without (link_at z d e) k)) → done ≡ record { outcome = Absent; events = []; changed = false }
     → HasMoved dcs (option_map_or (λ m. moved_at (with_link z d e (without (link_at z d e) k)) e (receive_turn e (datacentre_at z e) r m)) o (still Absent z)) new done
 deliver_none dcs z old new d e k r done None none empty h datacentres links is =
@@ -323,7 +323,7 @@ deliver_none dcs z old new d e k r done None none empty h datacentres links is =
     (ap (λ (x : TurnDone). x.outcome) is) (ap (λ (x : TurnDone). x.events) is)
 deliver_none dcs z old new d e k r done (Some m) some empty h datacentres links is = absurd (cc)
 
-pub deliver_empty : (load : Workload) (z : Stages) (old new : Sites) (d e k r : ℕ) (done : TurnDone) → Shows load.dcs z old → ltb r (datacentre_at z e).receivers ≡ true → None ≡ message_at (packets_at old.links d e) k
+pub deliver_empty : (load : Workload) (z : Stages) (old new : Network) (d e k r : ℕ) (done : TurnDone) → Shows load.dcs z old → ltb r (datacentre_at z e).receivers ≡ true → None ≡ message_at (packets_at old.links d e) k
     → new.datacentres ≡ old.datacentres → new.links ≡ with_packets old.links d e (without (packets_at old.links d e) k) → done ≡ record { outcome = Absent; events = []; changed = false }
     → HasMoved load.dcs (step_of load z (Deliver d e k r)) new done
 deliver_empty load z old new d e k r done h there empty datacentres links is =
@@ -340,11 +340,11 @@ message_from : (dcs : ℕ) (z : Stages) (d e k : ℕ) (packet : List ℕ) (o : O
 message_from dcs z d e k packet None is some = absurd (cc)
 message_from dcs z d e k packet (Some m) is some = record { message = m; there = is; spelled = same_Some packet (message_bytes dcs m) some }
 
-pub message_there : (dcs : ℕ) (z : Stages) (old : Sites) (d e k : ℕ) (packet : List ℕ) → Shows dcs z old → Some packet ≡ message_at (packets_at old.links d e) k → IsMessageOf dcs z d e k packet
+pub message_there : (dcs : ℕ) (z : Stages) (old : Network) (d e k : ℕ) (packet : List ℕ) → Shows dcs z old → Some packet ≡ message_at (packets_at old.links d e) k → IsMessageOf dcs z d e k packet
 message_there dcs z old d e k packet h is = message_from dcs z d e k packet (message_at (link_at z d e) k) refl (is ∙ packet_is dcs z old d e k h)
 
 -- a packet of a link that stands for a world spells its message
-message_spelled : (load : Workload) (d e k r : ℕ) (z : Stages) (old : Sites) (packet : List ℕ) → MayStep load (Deliver d e k r) z old → (of : IsMessageOf load.dcs z d e k packet)
+message_spelled : (load : Workload) (d e k r : ℕ) (z : Stages) (old : Network) (packet : List ℕ) → MayStep load (Deliver d e k r) z old → (of : IsMessageOf load.dcs z d e k packet)
     → SpellsMessage (length (datacentre_at z e).table) packet of.message
 message_spelled load d e k r z old packet may of =
     let step : Step = Deliver d e k r in
@@ -357,7 +357,7 @@ message_spelled load d e k r z old packet may of =
     (subst (λ n. SpellsMessage n (message_bytes load.dcs of.message) of.message) (sym (rows_are load step z old may e may.fits.second))
     (subst (λ n. SpellsMessage n (message_bytes n of.message) of.message) dcs spells))
 
-pub may_receive : (load : Workload) (d e k r : ℕ) (z : Stages) (old : Sites) (packet : List ℕ) → MayStep load (Deliver d e k r) z old → Some packet ≡ message_at (packets_at old.links d e) k → MayReceiveAt e d packet old.datacentres
+pub may_receive : (load : Workload) (d e k r : ℕ) (z : Stages) (old : Network) (packet : List ℕ) → MayStep load (Deliver d e k r) z old → Some packet ≡ message_at (packets_at old.links d e) k → MayReceiveAt e d packet old.datacentres
 may_receive load d e k r z old packet may is =
     let step : Step = Deliver d e k r in
     let w : World = may.world in
@@ -372,7 +372,7 @@ may_receive load d e k r z old packet may is =
     }
 
 -- a message comes to a datacentre
-pub deliver_moves : (load : Workload) (d e k r : ℕ) (z : Stages) (old new : Sites) (packet : List ℕ) (done : TurnDone) → MayStep load (Deliver d e k r) z old → ltb r (datacentre_at z e).receivers ≡ true
+pub deliver_moves : (load : Workload) (d e k r : ℕ) (z : Stages) (old new : Network) (packet : List ℕ) (done : TurnDone) → MayStep load (Deliver d e k r) z old → ltb r (datacentre_at z e).receivers ≡ true
     → Some packet ≡ message_at (packets_at old.links d e) k → new.links ≡ with_packets old.links d e (without (packets_at old.links d e) k)
     → ((m : Message) → SpellsMessage (length (datacentre_at z e).table) packet m → HasTurned e (datacentre_at z e) (receive_turn e (datacentre_at z e) r m) old.datacentres new.datacentres done)
     → HasMoved load.dcs (step_of load z (Deliver d e k r)) new done
@@ -380,22 +380,22 @@ deliver_moves load d e k r z old new packet done may there is links turned =
     let of : IsMessageOf load.dcs z d e k packet = message_there load.dcs z old d e k packet may.shown is in
     let m : Message = of.message in
     let left : Stages = with_link z d e (without (link_at z d e) k) in
-    let between : Sites = record { datacentres = old.datacentres; links = new.links } in
+    let between : Network = record { datacentres = old.datacentres; links = new.links } in
     let shown : Shows load.dcs left between = shows_link load.dcs z old may.shown d e (without (link_at z d e) k) between may.fits.first refl (taken_out load.dcs z old between d e k may.shown links) in
     let moved : HasMoved load.dcs (moved_at left e (receive_turn e (datacentre_at z e) r m)) new done =
     turned_at load.dcs left between new e (receive_turn e (datacentre_at z e) r m) done shown refl (turned m (message_spelled load d e k r z old packet may of)) in
     subst (λ x. HasMoved load.dcs x new done) (sym (cond-true (ltb r (datacentre_at z e).receivers) (deliver_turn z d e k r) (still Absent z) there))
     (subst (λ o. HasMoved load.dcs (option_map_or (λ y. moved_at left e (receive_turn e (datacentre_at z e) r y)) o (still Absent z)) new done) (sym of.there) moved)
 
-pub copied_ok : {E : Type 0} (load : Workload) (z : Stages) (old new : Sites) (d e k : ℕ) (r : Result TurnDone E) → Shows load.dcs z old → d < load.dcs → new.datacentres ≡ old.datacentres
+pub copied_ok : {E : Type 0} (load : Workload) (z : Stages) (old new : Network) (d e k : ℕ) (r : Result TurnDone E) → Shows load.dcs z old → d < load.dcs → new.datacentres ≡ old.datacentres
     → OnOk r (new.links ≡ with_packets old.links d e (copied (packets_at old.links d e) k)) → IfOk r (λ done. done.outcome ≡ copy_outcome (packets_at old.links d e) k (length (packets_at new.links d e)))
     → IfOk r (λ done. done.events ≡ []) → IfOk r (HasMoved load.dcs (step_of load z (Copy d e k)) new)
 copied_ok load z old new d e k (Ok done) h within datacentres links outcome events = copy_moves load z old new d e k done h within datacentres links outcome events
 copied_ok load z old new d e k (Err x) h within datacentres links outcome events = tt
 
 -- the same, where it is told that something changed
-pub changed_moves : (dcs : ℕ) (moved : Moved) (sites : Sites) (done told : TurnDone) → HasMoved dcs moved sites done → told ≡ record done { changed = true } → HasMoved dcs moved sites told
-changed_moves dcs moved sites done told is same = record {
+pub changed_moves : (dcs : ℕ) (moved : Moved) (network : Network) (done told : TurnDone) → HasMoved dcs moved network done → told ≡ record done { changed = true } → HasMoved dcs moved network told
+changed_moves dcs moved network done told is same = record {
   shown = is.shown;
   outcome = ap (λ (x : TurnDone). x.outcome) same ∙ is.outcome;
   events = ap (λ (x : TurnDone). x.events) same ∙ is.events;

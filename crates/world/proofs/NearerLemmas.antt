@@ -30,7 +30,7 @@ or_nowhere None = nowhere_at
 or_nowhere (Some z) = z
 
 abbrev pub seen_in : StagesState → List Datacentre
-seen_in s = map (λ (x : DatacentreState). or_nowhere x.stages) s.sites.datacentres
+seen_in s = map (λ (x : DatacentreState). or_nowhere x.stages) s.network.datacentres
 
 seen_all : (n : ℕ) (zs : List Datacentre) → map (λ (x : DatacentreState). or_nowhere x.stages) (states_from n zs) ≡ zs
 seen_all n [] = refl
@@ -117,7 +117,7 @@ answers_end s law h =
     }
 
 -- Telling ends, within two passes for each record that a log may get.
-pub tells_end : (s : StagesState) → ((w : World) (z : Stages) → IsLawful w → StandsFor w z → AreQuiet w.workload z → is_answering z ≡ false → EndsTelling w.workload z) → IsTaken s → AreAnswered s.sites.datacentres
+pub tells_end : (s : StagesState) → ((w : World) (z : Stages) → IsLawful w → StandsFor w z → AreQuiet w.workload z → is_answering z ≡ false → EndsTelling w.workload z) → IsTaken s → AreAnswered s.network.datacentres
     → Ends is_unfinished telling_rounds (most_passes s.workload) s
 tells_end s law h answered =
     let load : Workload = h.script.workload in

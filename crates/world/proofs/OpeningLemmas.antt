@@ -9,9 +9,9 @@ use Rattle.stage_world.specs.Stages.{Datacentre}
 use Rattle.stage_world.specs.Opening.{numbered, opening}
 use Rattle.stage_world.proofs.OpeningLemmas.{length-numbered}
 use Rattle.datacentre.specs.Seen.{DatacentreState}
-use Rattle.world.specs.declared.sites.Sites.{Sites}
+use Rattle.world.specs.declared.network.Network.{Network}
 use Rattle.world.specs.Showing.{Shows, opened_at, packets_of, states_from}
-use Rattle.world.proofs.SiteLemmas.{states_push}
+use Rattle.world.proofs.NetworkLemmas.{states_push}
 
 zero-plus : (k : ℕ) → 0 + k ≡ k
 zero-plus k = omega arith
@@ -36,9 +36,9 @@ All-replicate P (suc n) a here = All-cons P a (replicate n a) here (All-replicat
 abbrev no_messages : List Message
 no_messages = []
 
-pub opened_shows : (script : Script) (sites : Sites) → sites.datacentres ≡ states_from 0 (numbered (opened_at script) script.workload.dcs)
-    → sites.links ≡ replicate script.workload.dcs (replicate script.workload.dcs []) → Shows script.workload.dcs (opening script) sites
-opened_shows script sites datacentres links =
+pub opened_shows : (script : Script) (network : Network) → network.datacentres ≡ states_from 0 (numbered (opened_at script) script.workload.dcs)
+    → network.links ≡ replicate script.workload.dcs (replicate script.workload.dcs []) → Shows script.workload.dcs (opening script) network
+opened_shows script network datacentres links =
     let n : ℕ = script.workload.dcs in record {
       datacentres = datacentres;
       links =

@@ -10,7 +10,7 @@ use Rattle.abstract_log.specs.declared.command.Workload.{Workload}
 use Rattle.abstract_log.specs.declared.event.Event.{Event}
 use Rattle.abstract_log.specs.declared.world.World.{World}
 use Rattle.abstract_log.specs.Worlds.{start}
-use Rattle.abstract_log.specs.Runs.{IsFinished, after_all, world_of}
+use Rattle.abstract_log.specs.Runs.{IsFinished, IsRun, after_all, world_of}
 use Rattle.log_laws.proofs.Runs.{after_all-append}
 use Rattle.log_laws.specs.Lawful.{IsLawful}
 use Rattle.log_laws.proofs.LimitedRuns.{laws_of_run, workload_is}
@@ -23,11 +23,12 @@ use Rattle.stage_world.proofs.AllTurns.{schedule}
 use Rattle.settling_laws.specs.Ending.{IsFinishedBy}
 use Rattle.world.specs.declared.stages.Played.{Played}
 use Rattle.world.specs.Replays.{IsReplayed}
-use Rattle.world.specs.Settled.{HasPlayed}
+use Rattle.world.specs.Settled.{HasPlayed, Plays}
 use Rattle.world.specs.Showing.{IsBuiltStep}
-use Rattle.world.specs.Taking.{HasTaken, IsPlayed, StagesState, Taken, events_after, settled as settled_steps, stages_after, steps_of, taken_of}
+use Rattle.world.specs.Taking.{HasTaken, IsPlayed, IsTaken, StagesState, Taken, events_after, settled as settled_steps, stages_after, steps_of, taken_of}
 use Rattle.world.proofs.RoundLemmas.{take_all}
 use Rattle.world.proofs.SettledLemmas.{steps_played}
+use Rattle.world.proofs.TakingLemmas.{run_of}
 
 events_append : (load : Workload) (z : Stages) (xs ys : List Step) → events_of load z (xs ++ ys) ≡ events_of load z xs ++ events_of load (after_steps load z xs) ys
 events_append load z [] ys = refl
@@ -54,6 +55,23 @@ finished_after script ts s steps law h settling =
     let world : world_of load (events_after script (ts ++ settled_steps steps)) ≡ after_all w (events_of load z steps) =
     ap (world_of load) events ∙ after_all-append (start load) (events_after script ts) (events_of load z steps) in
     subst IsFinished (sym world) (subst (λ l. IsFinished (after_all w (events_of l z steps))) same by.finished)
+
+-- the stages after settling
+pub record AreSettled (old new : StagesState) : Type 0 where
+  pub run : IsRun new.workload new.events
+  pub finished : IsFinished (world_of new.workload new.events)
+  pub workload : new.workload ≡ old.workload
+
+pub settled_stages : (old new : StagesState) → Finishes → IsTaken old → Plays IsSettling old new → AreSettled old new
+settled_stages old new law taken plays =
+    let played : HasPlayed IsSettling taken.script taken.turns new = plays taken.script taken.turns taken.taken in
+    let ts : List Taken = taken.turns ++ settled_steps played.steps in
+    let finished : IsFinished (world_of taken.script.workload (events_after taken.script ts)) = finished_after taken.script taken.turns old played.steps law taken.taken played.are in
+    record {
+      run = (run_of taken.script ts new played.taken).0;
+      finished = subst (λ (l : Workload). IsFinished (world_of l new.events)) (sym played.taken.workload) (subst (λ es. IsFinished (world_of taken.script.workload es)) (sym played.taken.events) finished);
+      workload = played.taken.workload ∙ sym taken.taken.workload;
+    }
 
 own_steps : (steps : List Step) → steps_of (taken_of steps) ≡ steps
 own_steps [] = refl

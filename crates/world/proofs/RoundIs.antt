@@ -8,17 +8,17 @@ use Rattle.abstract_log.specs.declared.script.Step.TheVariants.{Client, Flush, G
 use Rattle.stage_world.specs.Opening.{numbered}
 use Rattle.stage_world.specs.Settling.{below, clients, flushes, gossips, local_round, passes, places, posts, ring}
 use Rattle.stage_world.specs.Stages.{Datacentre, Session, sizes_of}
-use Rattle.datacentre.specs.Seen.{DatacentreState}
+use Rattle.datacentre.specs.Seen.{DatacentreState, StandsForALog}
 use Rattle.world.specs.Settled.{IsKnown, ring_from}
-use Rattle.world.proofs.KnownLemmas.{told}
+use Rattle.world.proofs.KnownLemmas.{told, told_log}
 use Rattle.world.proofs.RoundLemmas.{then_more}
 
-module _ (d : ℕ) (z : Datacentre) (x : DatacentreState) (sizes : Sizes) (holder : ℕ) (known : IsKnown d z x) (members : ForSome x.stages (λ y. sizes ≡ sizes_of y)) (at : ForSome x.stages (λ y. holder ≡ y.token.at)) where
+module _ (d : ℕ) (z : Datacentre) (x : DatacentreState) (sizes : Sizes) (holder : ℕ) (known : IsKnown d z x) (members : ForSome x.stages (λ y. StandsForALog x.dc y → sizes ≡ sizes_of y)) (at : ForSome x.stages (λ y. StandsForALog x.dc y → holder ≡ y.token.at)) where
   sizes_are : sizes ≡ sizes_of z
-  sizes_are = told (λ y. sizes ≡ sizes_of y) d z x known members
+  sizes_are = told_log (λ y. sizes ≡ sizes_of y) d z x known members
 
   holder_is : holder ≡ z.token.at
-  holder_is = told (λ y. holder ≡ y.token.at) d z x known at
+  holder_is = told_log (λ y. holder ≡ y.token.at) d z x known at
 
   queues_are : sizes.queues ≡ length z.queues
   queues_are = ap (λ (s : Sizes). s.queues) sizes_are

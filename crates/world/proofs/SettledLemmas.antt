@@ -261,13 +261,13 @@ sends_and_delivers e n a b c sent newest delivered =
     delivered
 
 -- the link is there, and has as many packets as messages
-pub link_of : (script : Script) (ts : List Taken) (s : StagesState) (d e : ℕ) → HasTaken script ts s → AreTwo s.workload.dcs d e → AreThere d e s.sites.links
+pub link_of : (script : Script) (ts : List Taken) (s : StagesState) (d e : ℕ) → HasTaken script ts s → AreTwo s.workload.dcs d e → AreThere d e s.network.links
 link_of script ts s d e h two =
     let dcs : s.workload.dcs ≡ script.workload.dcs = ap (λ (l : Workload). l.dcs) h.workload in
-    links_there script.workload.dcs (stages_after script ts) s.sites d e h.shown (omega (arith, two.first, dcs)) (omega (arith, two.second, dcs))
+    links_there script.workload.dcs (stages_after script ts) s.network d e h.shown (omega (arith, two.first, dcs)) (omega (arith, two.second, dcs))
 
-pub count_of_link : (script : Script) (ts : List Taken) (s : StagesState) (d e : ℕ) → HasTaken script ts s → length (packets_at s.sites.links d e) ≡ link_length (stages_after script ts) d e
-count_of_link script ts s d e h = length_are script.workload.dcs (stages_after script ts) s.sites d e h.shown
+pub count_of_link : (script : Script) (ts : List Taken) (s : StagesState) (d e : ℕ) → HasTaken script ts s → length (packets_at s.network.links d e) ≡ link_length (stages_after script ts) d e
+count_of_link script ts s d e h = length_are script.workload.dcs (stages_after script ts) s.network d e h.shown
 
 -- the last turn, whatever came of it
 pub ended_with : {T E : Type 0} (r : Result T E) (P : Type 0) (step : Step) (b c : StagesState) → ((script : Script) (ts : List Taken) → HasTaken script ts b → OnOk r (HasTaken script (ts ++ record { step = step; settling = true } ∷ []) c))
@@ -305,9 +305,9 @@ answering_within s ds h is =
     (subst (λ n. All (λ d. d < n) (below (length z.datacentres))) (count_after h.script h.turns s h.taken) (all_below (length z.datacentres))))
 
 -- so it is after turns
-pub link_after : (P : Such) (a b s : StagesState) (x : Errand) → IsTaken a → AreTwo a.workload.dcs x.from x.to → Plays P a b → b ≡ s → AreThere x.from x.to s.sites.links
+pub link_after : (P : Such) (a b s : StagesState) (x : Errand) → IsTaken a → AreTwo a.workload.dcs x.from x.to → Plays P a b → b ≡ s → AreThere x.from x.to s.network.links
 link_after P a b s x taken two plays same =
     let one = plays taken.script taken.turns taken.taken in
     let dcs : a.workload.dcs ≡ b.workload.dcs = ap (λ (l : Workload). l.dcs) (sym (workload_kept P a b plays taken)) in
-    subst (λ (t : StagesState). AreThere x.from x.to t.sites.links) same
+    subst (λ (t : StagesState). AreThere x.from x.to t.network.links) same
     (link_of taken.script (taken.turns ++ settled one.steps) b x.from x.to one.taken (subst (λ n. AreTwo n x.from x.to) dcs two))

@@ -21,7 +21,7 @@ use Rattle.stage_world.specs.Whole.{StandsFor}
 use Rattle.stage_world.proofs.AllTurns.{schedule}
 use Rattle.stage_turns.specs.declared.done.TurnDone.{TurnDone}
 use Rattle.datacentre.specs.Leaving.{IsLeftBy}
-use Rattle.world.specs.declared.sites.Sites.{Sites}
+use Rattle.world.specs.declared.network.Network.{Network}
 use Rattle.world.specs.declared.stages.Played.{Played}
 use Rattle.world.specs.Showing.{HasMoved, IsBuiltStep, MayStep, Shows, TellsIdle}
 use Rattle.world.specs.Taking.{AreLines, HasTaken, IsBefore, IsPlayed, IsTaken, StagesState, Taken, events_after, line_of, lines_told, stages_after, steps_of}
@@ -70,7 +70,7 @@ run_of script ts s h =
       subst (λ l. StandsFor (world_of l s.events) (stages_after script ts)) (sym h.workload) (subst (λ es. StandsFor (world_of script.workload es) (stages_after script ts)) (sym h.events) run.1),
     )
 
-pub may_take : (script : Script) (ts : List Taken) (s : StagesState) (step : Step) → HasTaken script ts s → IsStep s.workload step → IsBuiltStep step → MayStep s.workload step (stages_after script ts) s.sites
+pub may_take : (script : Script) (ts : List Taken) (s : StagesState) (step : Step) → HasTaken script ts s → IsStep s.workload step → IsBuiltStep step → MayStep s.workload step (stages_after script ts) s.network
 may_take script ts s step h good built =
     let run = run_of script ts s h in
     record {
@@ -78,38 +78,38 @@ may_take script ts s step h good built =
       same = workload_is s.workload s.events;
       lawful = laws_of_run s.workload s.events (subst FitsLimits (sym h.workload) h.fits.limits) run.0;
       stands = run.1;
-      shown = subst (λ (l : Workload). Shows l.dcs (stages_after script ts) s.sites) (sym h.workload) h.shown;
+      shown = subst (λ (l : Workload). Shows l.dcs (stages_after script ts) s.network) (sym h.workload) h.shown;
       fits = good;
       built = built;
     }
 
 -- some turns were taken, so one more may be
-pub may_take_some : (s : StagesState) (step : Step) → IsTaken s → IsStep s.workload step → IsBuiltStep step → (z : Stages) × MayStep s.workload step z s.sites
+pub may_take_some : (s : StagesState) (step : Step) → IsTaken s → IsStep s.workload step → IsBuiltStep step → (z : Stages) × MayStep s.workload step z s.network
 may_take_some s step h good built = (stages_after h.script h.turns, may_take h.script h.turns s step h.taken good built)
 
 -- the state after one more turn
-abbrev pub state_with : StagesState → Sites → List Event → List StageLine → StagesState
-state_with s sites events more = record {
+abbrev pub state_with : StagesState → Network → List Event → List StageLine → StagesState
+state_with s network events more = record {
   workload = s.workload;
-  sites = sites;
+  network = network;
   events = s.events ++ events;
   lines = s.lines ++ more;
   failed = false;
 }
 
-module _ (s : StagesState) (step : Step) (settling : Bool) (sites : Sites) (done : TurnDone) (more : List StageLine) (good : IsStep s.workload step) (built : IsBuiltStep step) where
+module _ (s : StagesState) (step : Step) (settling : Bool) (network : Network) (done : TurnDone) (more : List StageLine) (good : IsStep s.workload step) (built : IsBuiltStep step) where
   -- what one more turn does to all, and what it writes
   abbrev Moves : Stages → Type 0
-  Moves z = HasMoved s.workload.dcs (step_of s.workload z step) sites done × Wrote s.workload z step settling done.outcome more
+  Moves z = HasMoved s.workload.dcs (step_of s.workload z step) network done × Wrote s.workload z step settling done.outcome more
 
-  pub taken_next : (script : Script) (ts : List Taken) → HasTaken script ts s → Moves (stages_after script ts) → HasTaken script (ts ++ record { step = step; settling = settling } ∷ []) (state_with s sites done.events more)
+  pub taken_next : (script : Script) (ts : List Taken) → HasTaken script ts s → Moves (stages_after script ts) → HasTaken script (ts ++ record { step = step; settling = settling } ∷ []) (state_with s network done.events more)
   taken_next script ts h does =
       let load : Workload = script.workload in
       let z : Stages = opening script in
       let now : Stages = stages_after script ts in
       let t : Taken = record { step = step; settling = settling } in
       let steps : steps_of (ts ++ t ∷ []) ≡ steps_of ts ++ step ∷ [] = map_push (λ (x : Taken). x.step) ts t in
-      let here : HasMoved load.dcs (step_of load now step) sites done = subst (λ (l : Workload). HasMoved l.dcs (step_of l now step) sites done) h.workload does.0 in
+      let here : HasMoved load.dcs (step_of load now step) network done = subst (λ (l : Workload). HasMoved l.dcs (step_of l now step) network done) h.workload does.0 in
       let wrote : Wrote load now step settling done.outcome more = subst (λ (l : Workload). Wrote l now step settling done.outcome more) h.workload does.1 in
       record {
         fits = h.fits;
@@ -117,14 +117,14 @@ module _ (s : StagesState) (step : Step) (settling : Bool) (sites : Sites) (done
         steps = subst (All (IsStep load)) (sym steps) (All-push (IsStep load) (steps_of ts) step h.steps (subst (λ l. IsStep l step) h.workload good));
         well = refl;
         workload = h.workload;
-        shown = subst (λ y. Shows load.dcs y sites) (sym (ap (after_steps load z) steps ∙ after_push load z (steps_of ts) step)) here.shown;
+        shown = subst (λ y. Shows load.dcs y network) (sym (ap (after_steps load z) steps ∙ after_push load z (steps_of ts) step)) here.shown;
         events = ap₂ (λ (a : List Event) (b : List Event). a ++ b) h.events here.events ∙ sym (ap (events_of load z) steps ∙ events_push load z (steps_of ts) step);
         lines =
             lines_push load z ts t s.lines more h.lines
             (subst (λ (o : Outcome). Wrote load now step settling o more) here.outcome wrote);
       }
 
-  pub some_next : ((z : Stages) → MayStep s.workload step z s.sites → Moves z) → IsTaken s → IsTaken (state_with s sites done.events more)
+  pub some_next : ((z : Stages) → MayStep s.workload step z s.network → Moves z) → IsTaken s → IsTaken (state_with s network done.events more)
   some_next moves h = record {
     script = h.script;
     turns = h.turns ++ record { step = step; settling = settling } ∷ [];
@@ -132,7 +132,7 @@ module _ (s : StagesState) (step : Step) (settling : Bool) (sites : Sites) (done
   }
 
 pub played : (script : Script) (ts : List Taken) (s : StagesState) (result : Played) → HasTaken script ts s → result.run.workload ≡ s.workload → result.run.events ≡ s.events → result.stages ≡ s.lines
-    → AllZip IsLeftBy s.sites.datacentres result.left → IsPlayed script ts result
+    → AllZip IsLeftBy s.network.datacentres result.left → IsPlayed script ts result
 played script ts s result h workload events lines left =
     let run = schedule script (steps_of ts) h.fits h.steps in
     let is : result.run.events ≡ events_after script ts = events ∙ h.events in
@@ -144,27 +144,27 @@ played script ts s result h workload events lines left =
       lines = subst (AreLines script.workload (opening script) ts) (sym lines) h.lines;
       is_run = subst (IsRun script.workload) (sym is) run.0;
       stands = stands;
-      left = left_of_all w (stages_after script ts) s.sites result.left
-          (subst (λ n. Shows n (stages_after script ts) s.sites) (sym (ap (λ (l : Workload). l.dcs) (workload_is script.workload result.run.events))) h.shown) stands left;
+      left = left_of_all w (stages_after script ts) s.network result.left
+          (subst (λ n. Shows n (stages_after script ts) s.network) (sym (ap (λ (l : Workload). l.dcs) (workload_is script.workload result.run.events))) h.shown) stands left;
     }
 
 -- What was written is as the code has it.
-module _ (s : StagesState) (step : Step) (settling : Bool) (sites : Sites) (done : TurnDone) (more : List StageLine) (es : List Event) (ls : List StageLine) (events : es ≡ s.events ++ done.events)
+module _ (s : StagesState) (step : Step) (settling : Bool) (network : Network) (done : TurnDone) (more : List StageLine) (es : List Event) (ls : List StageLine) (events : es ≡ s.events ++ done.events)
     (lines : ls ≡ s.lines ++ more) (good : IsStep s.workload step) (built : IsBuiltStep step)
-    (moves : (z : Stages) → MayStep s.workload step z s.sites → HasMoved s.workload.dcs (step_of s.workload z step) sites done × Wrote s.workload z step settling done.outcome more) where
+    (moves : (z : Stages) → MayStep s.workload step z s.network → HasMoved s.workload.dcs (step_of s.workload z step) network done × Wrote s.workload z step settling done.outcome more) where
   abbrev new : StagesState
-  new = record { workload = s.workload; sites = sites; events = es; lines = ls; failed = false }
+  new = record { workload = s.workload; network = network; events = es; lines = ls; failed = false }
 
-  written : state_with s sites done.events more ≡ new
-  written = ap₂ (λ (a : List Event) (b : List StageLine). record { workload = s.workload; sites = sites; events = a; lines = b; failed = false }) (sym events) (sym lines)
+  written : state_with s network done.events more ≡ new
+  written = ap₂ (λ (a : List Event) (b : List StageLine). record { workload = s.workload; network = network; events = a; lines = b; failed = false }) (sym events) (sym lines)
 
   pub some_written : IsTaken s → IsTaken new
-  some_written h = subst IsTaken written (some_next s step settling sites done more good built moves h)
+  some_written h = subst IsTaken written (some_next s step settling network done more good built moves h)
 
   pub taken_written : (script : Script) (ts : List Taken) → HasTaken script ts s → HasTaken script (ts ++ record { step = step; settling = settling } ∷ []) new
   taken_written script ts h =
       subst (HasTaken script (ts ++ record { step = step; settling = settling } ∷ [])) written
-      (taken_next s step settling sites done more good built script ts h (moves (stages_after script ts) (may_take script ts s step h good built)))
+      (taken_next s step settling network done more good built script ts h (moves (stages_after script ts) (may_take script ts s step h good built)))
 
   pub run_written : IsTaken s → IsRun s.workload es
   run_written h = let is : IsTaken new = some_written h in (run_of is.script is.turns new is.taken).0

@@ -1,5 +1,6 @@
 -- The turns of settling that the stages take.
 use Rattle.std.specs.Prelude.{◌≡◌, ℕ, ◌+◌, ◌≤◌, ◌%◌, ◌==◌, if◌then◌else◌, Bool, false, List, [], ◌∷◌, ◌++◌, length, flat_map, Some, All}
+use Rattle.cz_base.specs.declared.limits.TheConstants.{DATACENTRES}
 use Rattle.abstract_log.specs.declared.command.Workload.{Workload}
 use Rattle.abstract_log.specs.declared.script.Script.{Script}
 use Rattle.abstract_log.specs.declared.script.Step.{Step}
@@ -45,7 +46,7 @@ pub record AreKnown (z : Stages) (datacentres : List DatacentreState) : Type 0 w
   pub lawful : IsLawful world
   pub stands : StandsFor world z
   pub shown : datacentres ≡ states_from 0 z.datacentres
-  pub few : length z.datacentres ≤ 8
+  pub few : length z.datacentres ≤ DATACENTRES
 
 -- every command is answered
 abbrev pub AreAnswered : List DatacentreState → Type 0

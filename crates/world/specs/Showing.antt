@@ -18,7 +18,7 @@ use Rattle.stage_turns.specs.declared.done.TurnDone.{TurnDone}
 use Rattle.stage_world.specs.Turns.{Turned}
 use Rattle.datacentre.specs.Seen.{DatacentreState, StandsForALog}
 use Rattle.stage_turns.specs.Told.{IsToldBy}
-use Rattle.world.specs.declared.sites.Sites.{Sites}
+use Rattle.world.specs.declared.network.Network.{Network}
 use Rattle.datacentre.specs.Turning.{IsBuilt, IsPacketOf}
 
 -- datacentres from number n on, of which none has failed
@@ -38,16 +38,16 @@ abbrev pub rows_of : ℕ → List (List (List Message)) → List (List (List (Li
 rows_of dcs links = map (λ row. map (packets_of dcs) row) links
 
 -- The datacentres are those of the stage world, and each link has the packets that spell its messages.
-pub record Shows (dcs : ℕ) (z : Stages) (sites : Sites) : Type 0 where
-  pub datacentres : sites.datacentres ≡ states_from 0 z.datacentres
-  pub links : sites.links ≡ rows_of dcs z.links
+pub record Shows (dcs : ℕ) (z : Stages) (network : Network) : Type 0 where
+  pub datacentres : network.datacentres ≡ states_from 0 z.datacentres
+  pub links : network.links ≡ rows_of dcs z.links
   pub count : length z.datacentres ≡ dcs
   pub rows : length z.links ≡ dcs
   pub columns : All (λ row. length row ≡ dcs) z.links
 
--- The sites are those that a turn leaves, and its outcome and its events are answered.
-pub record HasMoved (dcs : ℕ) (moved : Moved) (sites : Sites) (done : TurnDone) : Type 0 where
-  pub shown : Shows dcs moved.after sites
+-- The network are those that a turn leaves, and its outcome and its events are answered.
+pub record HasMoved (dcs : ℕ) (moved : Moved) (network : Network) (done : TurnDone) : Type 0 where
+  pub shown : Shows dcs moved.after network
   pub outcome : done.outcome ≡ moved.outcome
   pub events : done.events ≡ moved.events
 
@@ -147,12 +147,12 @@ pub record HasSent (d k e : ℕ) (z : Datacentre) (old new : List DatacentreStat
   pub changed : sent.0.changed ≡ false
   pub packet : IsPacketOf d z k e sent.1
 
--- The sites show stages that stand for a world which a run has left, and may take this step.
-pub record MayStep (load : Workload) (step : Step) (z : Stages) (sites : Sites) : Type 0 where
+-- The network show stages that stand for a world which a run has left, and may take this step.
+pub record MayStep (load : Workload) (step : Step) (z : Stages) (network : Network) : Type 0 where
   pub world : World
   pub same : world.workload ≡ load
   pub lawful : IsLawful world
   pub stands : StandsFor world z
-  pub shown : Shows load.dcs z sites
+  pub shown : Shows load.dcs z network
   pub fits : IsStep load step
   pub built : IsBuiltStep step

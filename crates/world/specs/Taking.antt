@@ -14,7 +14,7 @@ use Rattle.stage_world.specs.Opening.{opening}
 use Rattle.stage_world.specs.Schedules.{IsStep, after_steps, events_of, step_of}
 use Rattle.stage_world.specs.Idle.{IsIdleTurn}
 use Rattle.stage_world.specs.Whole.{StandsFor}
-use Rattle.world.specs.declared.sites.Sites.{Sites}
+use Rattle.world.specs.declared.network.Network.{Network}
 use Rattle.world.specs.declared.stages.Played.{Played}
 use Rattle.world.specs.Showing.{IsBuiltStep, Shows}
 
@@ -63,7 +63,7 @@ events_after script ts = events_of script.workload (opening script) (steps_of ts
 -- what contracts see of all stages: the workload, the datacentres and links, what was written, and whether memory was wanted
 pub record StagesState : Type 0 where
   pub workload : Workload
-  pub sites : Sites
+  pub network : Network
   pub events : List Event
   pub lines : List StageLine
   pub failed : Bool
@@ -75,7 +75,7 @@ pub record HasTaken (script : Script) (ts : List Taken) (s : StagesState) : Type
   pub built : All IsBuiltStep (steps_of ts)
   pub well : s.failed ≡ false
   pub workload : s.workload ≡ script.workload
-  pub shown : Shows script.workload.dcs (stages_after script ts) s.sites
+  pub shown : Shows script.workload.dcs (stages_after script ts) s.network
   pub events : s.events ≡ events_after script ts
   pub lines : AreLines script.workload (opening script) ts s.lines
 

@@ -3,7 +3,7 @@ ghost use Rattle.std.specs.Prelude.{IfOk};
 ghost use Rattle.std.specs.List.{AllZip};
 ghost use Rattle.datacentre.specs.Leaving.{IsLeftBy};
 
-use crate::sites::Sites;
+use crate::network::Network;
 use abstract_log::Left;
 use cz_base::{NoMemory, Seq};
 use datacentre::Datacentre;
@@ -11,10 +11,10 @@ use std::alloc::Global;
 use std::mem::drop;
 
 /// What each datacentre leaves, by letter. The links are given back first.
-pub(crate) fn leave(alloc: Global, sites: Sites) -> Result<Left, NoMemory>
-    ensures { IfOk result (AllZip IsLeftBy sites.datacentres) }
+pub(crate) fn leave(alloc: Global, network: Network) -> Result<Left, NoMemory>
+    ensures { IfOk result (AllZip IsLeftBy network.datacentres) }
 {
-    let Sites { datacentres, links } = sites;
+    let Network { datacentres, links } = network;
     drop(links);
     leave_each(alloc, datacentres)
 }

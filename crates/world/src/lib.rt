@@ -7,20 +7,20 @@
 //! answered, and every log has every record.
 #![tactic(auto)]
 
-mod calls;
-mod errands;
+mod exchanges;
 mod laws;
 mod leaving;
 mod linking;
-mod looks;
+mod network;
+mod one_datacentre;
 mod opening;
 mod packets;
-mod places;
 mod replaying;
 mod rounds;
 mod settling;
-mod sites;
+mod settling_state;
 mod stages;
+mod step_owners;
 mod stepping;
 
 pub use laws::turns_are_runs;

@@ -4,7 +4,7 @@ ghost use Rattle.abstract_log.specs.Fits.{FitsScript};
 ghost use Rattle.stage_world.specs.Opening.{opening};
 ghost use Rattle.world.specs.Showing.{Shows, opened_at, states_from};
 
-use crate::sites::Sites;
+use crate::network::Network;
 use abstract_log::Script;
 use cz_base::{DcId, NoMemory, Seq};
 use datacentre::Datacentre;
@@ -12,11 +12,11 @@ use lossy_links::Link;
 use std::alloc::Global;
 
 /// The datacentres with the script's stages and sessions, and empty links.
-pub(crate) fn open_sites(alloc: Global, script: &Script) -> Result<Sites, NoMemory>
+pub(crate) fn open_network(alloc: Global, script: &Script) -> Result<Network, NoMemory>
     requires { FitsScript script.now }
-    ensures { IfOk result (λ sites. Shows script.now.workload.dcs (opening script.now) sites) }
+    ensures { IfOk result (λ network. Shows script.now.workload.dcs (opening script.now) network) }
 {
-    Ok(Sites {
+    Ok(Network {
         datacentres: open_datacentres(alloc, script)?,
         links: open_links(alloc, script.workload.dcs)?,
     })

@@ -1,22 +1,49 @@
 //! Settling: turns until every command is answered and every log has every record.
-ghost use Rattle.std.specs.Prelude.{◌≡◌, ◌<◌, OnOk};
+ghost use Rattle.std.specs.Prelude.{◌≡◌, ◌<◌, true, OnOk, OnErr, IsErr};
 ghost use Rattle.std.specs.List.{All};
+ghost use Rattle.abstract_log.specs.Runs.{IsFinished, IsRun, world_of};
 ghost use Rattle.stage_world.specs.Schedules.{AreTwo};
 ghost use Rattle.stage_world.specs.Settling.{IsSettling, all_rounds, answering_rounds, errand_turns, exchange_turns, is_answering, is_unfinished, rounds, sent_and_delivered, telling_rounds};
 ghost use Rattle.world.specs.Settled.{AreAnswered, HasLooped, MayBePlayed, Plays};
 ghost use Rattle.world.specs.Taking.{IsTaken};
 
-use crate::errands::{Errand, errands};
-use crate::looks::{all_of, answering, is_answering, is_due, is_unfinished, rounds};
+use crate::exchanges::{Errand, errands};
+use crate::settling_state::{all_of, answering, is_answering, is_due, is_unfinished, rounds};
 use crate::packets::packets_in;
 use crate::stages::Stages;
 use abstract_log::Step;
 use cz_base::{DcId, NoMemory};
-use settling_laws::{answering_ends, telling_ends};
+use settling_laws::{answering_ends, settled_worlds_are_finished, telling_ends};
 
 impl Stages {
-    /// Takes the turns of settling.
-    pub(crate) fn settle(&mut self) -> Result<(), NoMemory>
+    /// Takes the turns of settling: rounds until every command is answered, rounds and exchanges until every log has every
+    /// record, and a last round. Where memory is wanted it has failed.
+    pub fn settle(&mut self) -> Result<(), NoMemory>
+        // Whatever turns were taken, those of settling were taken after them.
+        ensures turns { OnOk result (Plays IsSettling self.old self.new) }
+
+        // What is written is a finished run on the workload.
+        ensures run { OnOk result (IsRun self.new.workload self.new.events) }
+        ensures finished { OnOk result (IsFinished (world_of self.new.workload self.new.events)) }
+        ensures workload { OnOk result (self.new.workload ≡ self.old.workload) }
+        ensures failed { OnErr result (self.new.failed ≡ true) }
+        ensures later { self.old.failed ≡ true → IsErr result }
+    {
+        if self.failed {
+            return Err(NoMemory);
+        }
+        settled_worlds_are_finished();
+        match self.play_all() {
+            Ok(()) => Ok(()),
+            Err(NoMemory) => {
+                self.failed = true;
+                Err(NoMemory)
+            }
+        }
+    }
+
+    // All turns of settling.
+    fn play_all(&mut self) -> Result<(), NoMemory>
         requires { IsTaken self.old }
         ensures { OnOk result (Plays IsSettling self.old self.new) }
     {
@@ -29,10 +56,10 @@ impl Stages {
     fn play_until_answered(&mut self) -> Result<(), NoMemory>
         requires { IsTaken self.old }
         ensures turns { OnOk result (Plays (HasLooped is_answering answering_rounds) self.old self.new) }
-        ensures answered { OnOk result (AreAnswered self.new.sites.datacentres) }
+        ensures answered { OnOk result (AreAnswered self.new.network.datacentres) }
     {
         answering_ends();
-        while is_answering(&self.sites.datacentres) {
+        while is_answering(&self.network.datacentres) {
             self.play_where_waiting()?;
         }
         Ok(())
@@ -41,11 +68,11 @@ impl Stages {
     // Local rounds and exchanges until every log has every record.
     fn play_until_told(&mut self) -> Result<(), NoMemory>
         requires taken { IsTaken self.old }
-        requires answered { AreAnswered self.old.sites.datacentres }
+        requires answered { AreAnswered self.old.network.datacentres }
         ensures { OnOk result (Plays (HasLooped is_unfinished telling_rounds) self.old self.new) }
     {
         telling_ends();
-        while is_unfinished(&self.sites.datacentres) {
+        while is_unfinished(&self.network.datacentres) {
             self.play_and_tell()?;
         }
         Ok(())
@@ -76,7 +103,7 @@ impl Stages {
     {
         let ds = answering(
             self.events.alloc(),
-            &self.sites.datacentres,
+            &self.network.datacentres,
             self.workload.dcs,
         )?;
         self.play_rounds(ds.as_slice())
@@ -88,7 +115,7 @@ impl Stages {
         requires there { All (λ d. d < self.old.workload.dcs) ds.now }
         ensures { OnOk result (Plays (λ load z steps. steps ≡ rounds z ds.now) self.old self.new) }
     {
-        let steps = rounds(self.events.alloc(), &self.sites.datacentres, ds)?;
+        let steps = rounds(self.events.alloc(), &self.network.datacentres, ds)?;
         self.play(steps.as_slice())
     }
 
@@ -111,7 +138,7 @@ impl Stages {
     {
         let them = errands(
             self.events.alloc(),
-            &self.sites.datacentres,
+            &self.network.datacentres,
             self.workload.dcs,
         )?;
         for errand in them.as_slice() {
@@ -126,7 +153,7 @@ impl Stages {
         requires two { AreTwo self.old.workload.dcs errand.now.from errand.now.to }
         ensures { OnOk result (Plays (λ load z steps. steps ≡ errand_turns load z errand.now) self.old self.new) }
     {
-        if !is_due(&self.sites.datacentres, errand) {
+        if !is_due(&self.network.datacentres, errand) {
             return Ok(());
         }
         self.send_and_deliver(errand)
@@ -142,7 +169,7 @@ impl Stages {
         let e = errand.to;
         let k = errand.sender;
         self.take(&Step::Send { d, k, e }, true)?;
-        let newest = packets_in(&self.sites.links, d, e);
+        let newest = packets_in(&self.network.links, d, e);
         self.take(
             &Step::Deliver {
                 d,

@@ -1,3 +1,5 @@
+//! All stages, and the turns that they take.
+
 ghost use Rattle.std.specs.Prelude.{◌≡◌, true, false, List, [], ◌∷◌, ◌++◌, IfOk, OnErr, OnOk, IsErr};
 ghost use Rattle.abstract_log.specs.declared.script.Script.{Script as ScriptValue};
 ghost use Rattle.abstract_log.specs.Fits.{FitsScript};
@@ -7,8 +9,8 @@ ghost use Rattle.world.specs.Showing.{IsBuiltStep};
 ghost use Rattle.world.specs.Taking.{lines_told};
 
 use crate::leaving::leave;
-use crate::opening::open_sites;
-use crate::sites::Sites;
+use crate::opening::open_network;
+use crate::network::Network;
 use abstract_log::{Event, Left, Outcome, Run, Script, StageLine, StageLog, Step, Workload};
 use cz_base::{NoMemory, Seq};
 use std::alloc::Global;
@@ -17,8 +19,11 @@ use std::marker::Model;
 /// A run, the turns that brought it, and what it leaves.
 #[derive(Debug, Drop)]
 pub struct Played {
+    /// The events, and the workload that they answer.
     pub run: Run,
+    /// A line for each turn, but the idle ones of settling.
     pub stages: StageLog,
+    /// What stands in each log, and each table.
     pub left: Left,
 }
 
@@ -27,10 +32,10 @@ pub struct Played {
 #[derive(Drop)]
 pub struct Stages {
     pub(crate) workload: Workload,
-    pub(crate) sites: Sites,
+    pub(crate) network: Network,
     pub(crate) events: Seq<Event>,
     lines: StageLog,
-    failed: bool,
+    pub(crate) failed: bool,
 }
 
 impl Model for Stages {
@@ -39,9 +44,9 @@ impl Model for Stages {
 
     ghost Value = { StagesState };
 
-    ghost view = { λ s. record { workload = s.workload; sites = s.sites; events = s.events; lines = s.lines; failed = s.failed } };
+    ghost view = { λ s. record { workload = s.workload; network = s.network; events = s.events; lines = s.lines; failed = s.failed } };
 
-    ghost invariant = { λ s. s.failed ≡ false → IsTaken (record { workload = s.workload; sites = s.sites; events = s.events; lines = s.lines; failed = s.failed }) };
+    ghost invariant = { λ s. s.failed ≡ false → IsTaken (record { workload = s.workload; network = s.network; events = s.events; lines = s.lines; failed = s.failed }) };
 }
 
 impl Stages {
@@ -54,7 +59,7 @@ impl Stages {
     {
         Ok(Stages {
             workload: script.workload.copy()?,
-            sites: open_sites(alloc, script)?,
+            network: open_network(alloc, script)?,
             events: Seq::new(alloc),
             lines: Seq::new(alloc),
             failed: false,
@@ -91,7 +96,7 @@ impl Stages {
             return Err(NoMemory);
         }
         self.failed = true;
-        let done = self.sites.step(&self.workload, step)?;
+        let done = self.network.step(&self.workload, step)?;
         write_line(&mut self.lines, step, done.outcome, settling, done.changed)?;
         self.events.append(done.events)?;
         self.failed = false;
@@ -104,12 +109,12 @@ impl Stages {
     {
         let Stages {
             workload,
-            sites,
+            network,
             events,
             lines,
             failed: _,
         } = self;
-        let left = leave(events.alloc(), sites)?;
+        let left = leave(events.alloc(), network)?;
         Ok(Played {
             run: Run { workload, events },
             stages: lines,

@@ -1,3 +1,5 @@
+//! The four forms, each for a few scripts, byte by byte.
+
 use super::{plain_run, replay_run};
 use command_line::Form;
 use cz_base::{MemSink, MemSource, Seq, SureSink, SureSource, Word};

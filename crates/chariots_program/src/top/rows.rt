@@ -1,3 +1,5 @@
+//! Scripts of sessions that share a log, and the answers of each command.
+
 use super::plain_run;
 use crate::done::Done;
 use abstract_log::StageLog;

@@ -1,3 +1,5 @@
+//! The statuses of the program, and what it writes where a stream or the memory fails.
+
 use super::{chariots, plain_run};
 use crate::replaying::SCRIPT_LIMIT;
 use cz_base::{MemSink, MemSource, OpenGate, Seq, Word};

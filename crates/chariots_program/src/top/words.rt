@@ -1,3 +1,5 @@
+//! The words of the command line, and the status of each.
+
 use super::plain_run;
 use cz_base::{MemSink, MemSource, Seq, Word};
 use std::alloc::Global;

@@ -1,12 +1,5 @@
-use Rattle.world.proofs.KnownLemmas.{asks}
 use Rattle.world.proofs.RoundIs.{few_queues, has_queue, holds_within, round_is}
 use Rattle.world.proofs.rounds.add_round.Goals as goal
-
-pub members-members-requires : goal.members-members-requires
-members-members-requires c = asks _ _ _ c.requires.1
-
-pub holder-holder-requires : goal.holder-holder-requires
-holder-holder-requires c = asks _ _ _ c.requires.1
 
 pub add_passes-requires : goal.add_passes-requires
 add_passes-requires c = has_queue _ _ _ _ _ c.requires.1 c.members-members.ensures c.holder-holder.ensures

@@ -8,4 +8,4 @@ use Rattle.world.proofs.stages.Stages.finish.Goals as goal
 pub returns : goal.returns
 returns c script ts h =
     played script ts c.args.self _ h (ap (λ (s : StagesState). s.workload) c.self.view_is) (ap (λ (s : StagesState). s.events) c.self.view_is) (ap (λ (s : StagesState). s.lines) c.self.view_is)
-    (subst (λ (s : StagesState). AllZip IsLeftBy s.sites.datacentres c.in_ok-left.left) c.self.view_is c.in_ok-left.ensures)
+    (subst (λ (s : StagesState). AllZip IsLeftBy s.network.datacentres c.in_ok-left.left) c.self.view_is c.in_ok-left.ensures)

@@ -26,4 +26,4 @@ returns-clause-turns c =
     loop_done is_answering answering_rounds _ _ c.loop-self.invariant (λ script ts h. sym (c.is_answering.ensures _ (known_of script ts _ (subst (HasTaken script ts) (sym c.self.view_is) h))) ∙ c.loop-self-test.false)
 
 pub returns-clause-answered : goal.returns-clause-answered
-returns-clause-answered c z known = sym (c.is_answering.ensures z (subst (λ (s : StagesState). AreKnown z s.sites.datacentres) (sym c.self.view_is) known)) ∙ c.loop-self-test.false
+returns-clause-answered c z known = sym (c.is_answering.ensures z (subst (λ (s : StagesState). AreKnown z s.network.datacentres) (sym c.self.view_is) known)) ∙ c.loop-self-test.false

@@ -9,7 +9,7 @@ use Rattle.world.proofs.stages.Stages.send_and_deliver.Goals as goal
 
 pub packets_in-newest-requires : goal.packets_in-newest-requires
 packets_in-newest-requires c =
-    subst (λ (x : Errand). AreThere x.from x.to c.self.inside.sites.links) (sym c.errand.view_is)
+    subst (λ (x : Errand). AreThere x.from x.to c.self.inside.network.links) (sym c.errand.view_is)
     (link_after _ _ _ _ c.args.errand.now c.requires.taken c.requires.two (plays_one _ _ _ c.in_ok-take.ensures.taken) (sym c.self.view_is))
 
 pub returns : goal.returns
@@ -18,6 +18,6 @@ returns c =
     (λ delivered. sends_and_delivers c.args.errand.now c.packets_in-newest.result _ _ _
     (subst (λ (x : Errand). Plays (λ load z xs. xs ≡ Send x.from x.sender x.to ∷ []) c.args.self.now c.take.new.self) c.errand.view_is (plays_one _ _ _ c.in_ok-take.ensures.taken))
     (λ script ts h.
-    subst (λ (x : Errand). c.packets_in-newest.result ≡ length (packets_at c.self.inside.sites.links x.from x.to)) c.errand.view_is c.packets_in-newest.ensures
+    subst (λ (x : Errand). c.packets_in-newest.result ≡ length (packets_at c.self.inside.network.links x.from x.to)) c.errand.view_is c.packets_in-newest.ensures
     ∙ count_of_link script ts _ c.args.errand.now.from c.args.errand.now.to (subst (HasTaken script ts) (sym c.self.view_is) h))
     (subst (λ (x : Errand). Plays (λ load z xs. xs ≡ Deliver x.from x.to c.packets_in-newest.result 0 ∷ []) c.take.new.self c.take-2.new.self) c.errand.view_is delivered))

@@ -1,12 +1,16 @@
-use Rattle.std.proofs.lemmas.Result.{on_ok_weaker}
-use Rattle.world.proofs.SettledLemmas.{plays_settling, still_taken}
+use Rattle.std.proofs.Common.{sym, subst}
+use Rattle.world.specs.Taking.{IsTaken}
+use Rattle.world.proofs.ReplayLemmas.{settled_stages}
 use Rattle.world.proofs.stages.Stages.settle.Goals as goal
 
-pub play_until_told-requires-clause-taken : goal.play_until_told-requires-clause-taken
-play_until_told-requires-clause-taken c = still_taken _ _ _ c.in_ok-play_until_answered.ensures.turns c.requires
+pub play_all-requires : goal.play_all-requires
+play_all-requires c = subst IsTaken c.self.view_is (c.self.invariant c.if-self.false)
 
-pub play_everywhere-requires : goal.play_everywhere-requires
-play_everywhere-requires c = still_taken _ _ _ c.in_ok-play_until_told.ensures (still_taken _ _ _ c.in_ok-play_until_answered.ensures.turns c.requires)
+pub returns-clause-run : goal.returns-clause-run
+returns-clause-run c = (settled_stages _ _ c.settled_worlds_are_finished.ensures (subst IsTaken c.self.view_is (c.self.invariant c.if-self.false)) c.in-Ok.ensures).run
 
-pub returns : goal.returns
-returns c = on_ok_weaker _ (plays_settling _ _ _ _ c.in_ok-play_until_answered.ensures.turns c.in_ok-play_until_told.ensures) c.play_everywhere.ensures
+pub returns-clause-finished : goal.returns-clause-finished
+returns-clause-finished c = (settled_stages _ _ c.settled_worlds_are_finished.ensures (subst IsTaken c.self.view_is (c.self.invariant c.if-self.false)) c.in-Ok.ensures).finished
+
+pub returns-clause-workload : goal.returns-clause-workload
+returns-clause-workload c = (settled_stages _ _ c.settled_worlds_are_finished.ensures (subst IsTaken c.self.view_is (c.self.invariant c.if-self.false)) c.in-Ok.ensures).workload

@@ -1,9 +1,0 @@
-use Rattle.std.proofs.Common.{◌∙◌, ap, get_or}
-use Rattle.world.proofs.CallLemmas.{has_receiver_is}
-use Rattle.world.proofs.calls.has_receiver.Goals as goal
-
-pub returns : goal.returns
-returns c z seen =
-    let item = c.index-as_slice-number.result in
-    has_receiver_is c.args.d c.number.result z c.args.datacentres.now item c.number.ensures.value
-    (c.index-as_slice-number.is ∙ ap (λ xs. get_or xs c.number.result item) c.as_slice.ensures) seen c.args.r c.members-receivers.result c.members-receivers.ensures

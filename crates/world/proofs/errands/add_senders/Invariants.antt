@@ -1,6 +1,0 @@
-use Rattle.std.proofs.Common.{◌≡◌, ◌++◌}
-use Rattle.stage_world.specs.Opening.{numbered}
-use Rattle.world.proofs.errands.add_senders.Given as goal
-
-abbrev pub invariant-loop-sender : goal.invariant-loop-sender
-invariant-loop-sender l = l.them ≡ l.initial.them ++ numbered (λ k. record { from = l.from; to = l.to; sender = k }) l.sender
