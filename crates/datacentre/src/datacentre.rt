@@ -27,7 +27,6 @@ use crate::{Session, TurnDone, turns};
 use abstract_log::{LeftAt, Sizes, Step, Workload};
 use awareness_table::Aware;
 use causal_deps::Counts;
-use cz_base::limits::MEMBERS;
 use cz_base::{DcId, NoMemory, Seq};
 use flstore_rounds::Epochs;
 use log_gc::Gc;

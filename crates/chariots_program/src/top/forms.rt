@@ -7,13 +7,49 @@ use std::alloc::Global;
 use std::process::Abort;
 use std::test::Fail;
 
-const NO_SESSION: &[u8] = b"chariots 1\ndatacentres 1\nround 1\nsteps\nend\n";
+const NO_SESSION: &[u8] = b"\
+    chariots 1\n\
+    datacentres 1\n\
+    round 1\n\
+    steps\n\
+    end\n";
 
-const ONE_APPEND: &[u8] =
-    b"chariots 1\ndatacentres 1\nround 1\nsession A\nappend =hi\nsteps\nend\n";
+const ONE_APPEND: &[u8] = b"\
+    chariots 1\n\
+    datacentres 1\n\
+    round 1\n\
+    session A\n\
+    append =hi\n\
+    steps\n\
+    end\n";
 
-const ONE_APPEND_IN_FULL: &[u8] =
-    b"chariots report 1\ndatacentres 1\nworkload\nsession A\nappend =hi\nstages\nsettling\nclient 0 -> submitted 1\nflush A 0 -> 0.1 0 passed\npass A 0 0 -> 1\nstamp A 0 -> 1 A:1 deferred 0\nplace A 0 0 -> 1\ngossip A 0 0 -> head 1\npost A 0 0 -> covered 1\nlearn A -> 1\ntrace\nsubmit 0 1\nappend A 1 A:1 0 1\nlearn A 1\nlogs\nlog A 1\n1 A:1 append 0 1 0 =hi\ntable A 1\nreplies\n0 1 written 1 A:1\nend\n";
+const ONE_APPEND_IN_FULL: &[u8] = b"\
+    chariots report 1\n\
+    datacentres 1\n\
+    workload\n\
+    session A\n\
+    append =hi\n\
+    stages\n\
+    settling\n\
+    client 0 -> submitted 1\n\
+    flush A 0 -> 0.1 0 passed\n\
+    pass A 0 0 -> 1\n\
+    stamp A 0 -> 1 A:1 deferred 0\n\
+    place A 0 0 -> 1\n\
+    gossip A 0 0 -> head 1\n\
+    post A 0 0 -> covered 1\n\
+    learn A -> 1\n\
+    trace\n\
+    submit 0 1\n\
+    append A 1 A:1 0 1\n\
+    learn A 1\n\
+    logs\n\
+    log A 1\n\
+    1 A:1 append 0 1 0 =hi\n\
+    table A 1\n\
+    replies\n\
+    0 1 written 1 A:1\n\
+    end\n";
 
 // A script, a form, and the report in it.
 struct Case {

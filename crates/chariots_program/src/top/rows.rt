@@ -9,40 +9,223 @@ use std::process::Abort;
 use std::test::Fail;
 
 // A value is read elsewhere, and what is put after it waits for it.
-const ACROSS: &[u8] =
-    b"chariots 1\ndatacentres 3\nround 1\nsession A\nput x =1\nsession B\nget x\nput y =2\nsteps\nclient 0\nflush A 0\npass A 0 0\nstamp A 0\nplace A 0 0\nsend A 0 B\ndeliver A B 1 0\nflush B 0\npass B 0 0\nstamp B 0\nplace B 0 0\ngossip B 0 0\npost B 0 0\nclient 1\nclient 1\nflush B 0\npass B 0 0\nstamp B 0\nplace B 0 0\nsend B 0 C\ndeliver B C 1 0\nflush C 0\npass C 0 0\nstamp C 0\nsend A 0 C\ndeliver A C 1 0\nflush C 0\npass C 0 0\nstamp C 0\nend\n";
+const ACROSS: &[u8] = b"\
+    chariots 1\n\
+    datacentres 3\n\
+    round 1\n\
+    session A\n\
+    put x =1\n\
+    session B\n\
+    get x\n\
+    put y =2\n\
+    steps\n\
+    client 0\n\
+    flush A 0\n\
+    pass A 0 0\n\
+    stamp A 0\n\
+    place A 0 0\n\
+    send A 0 B\n\
+    deliver A B 1 0\n\
+    flush B 0\n\
+    pass B 0 0\n\
+    stamp B 0\n\
+    place B 0 0\n\
+    gossip B 0 0\n\
+    post B 0 0\n\
+    client 1\n\
+    client 1\n\
+    flush B 0\n\
+    pass B 0 0\n\
+    stamp B 0\n\
+    place B 0 0\n\
+    send B 0 C\n\
+    deliver B C 1 0\n\
+    flush C 0\n\
+    pass C 0 0\n\
+    stamp C 0\n\
+    send A 0 C\n\
+    deliver A C 1 0\n\
+    flush C 0\n\
+    pass C 0 0\n\
+    stamp C 0\n\
+    end\n";
 
 // A get waits for the head, and then for the indexer.
-const BEHIND: &[u8] =
-    b"chariots 1\ndatacentres 1\nround 1\nsession A\nput x =1\nget x\nsteps\nclient 0\nflush A 0\npass A 0 0\nstamp A 0\nclient 0\nplace A 0 0\ngossip A 0 0\nclient 0\npost A 0 0\nclient 0\nend\n";
+const BEHIND: &[u8] = b"\
+    chariots 1\n\
+    datacentres 1\n\
+    round 1\n\
+    session A\n\
+    put x =1\n\
+    get x\n\
+    steps\n\
+    client 0\n\
+    flush A 0\n\
+    pass A 0 0\n\
+    stamp A 0\n\
+    client 0\n\
+    place A 0 0\n\
+    gossip A 0 0\n\
+    client 0\n\
+    post A 0 0\n\
+    client 0\n\
+    end\n";
 
 // A transaction holds the floor down, so that both its keys are read at one position.
-const COLLECTED: &[u8] =
-    b"chariots 1\ndatacentres 1\nround 1\nsession A\nput x =1\nput y =1\nput x =2\nsession A\ntx y x\nsteps\nclient 0\nflush A 0\npass A 0 0\nstamp A 0\nclient 0\nflush A 0\npass A 0 0\nstamp A 0\nplace A 0 0\ngossip A 0 0\npost A 0 0\nclient 1\nclient 0\nflush A 0\npass A 0 0\nstamp A 0\nplace A 0 0\ngossip A 0 0\npost A 0 0\nlearn A\nfloor A 3\ncollect A 0\nclient 1\nfloor A 3\ncollect A 0\nend\n";
+const COLLECTED: &[u8] = b"\
+    chariots 1\n\
+    datacentres 1\n\
+    round 1\n\
+    session A\n\
+    put x =1\n\
+    put y =1\n\
+    put x =2\n\
+    session A\n\
+    tx y x\n\
+    steps\n\
+    client 0\n\
+    flush A 0\n\
+    pass A 0 0\n\
+    stamp A 0\n\
+    client 0\n\
+    flush A 0\n\
+    pass A 0 0\n\
+    stamp A 0\n\
+    place A 0 0\n\
+    gossip A 0 0\n\
+    post A 0 0\n\
+    client 1\n\
+    client 0\n\
+    flush A 0\n\
+    pass A 0 0\n\
+    stamp A 0\n\
+    place A 0 0\n\
+    gossip A 0 0\n\
+    post A 0 0\n\
+    learn A\n\
+    floor A 3\n\
+    collect A 0\n\
+    client 1\n\
+    floor A 3\n\
+    collect A 0\n\
+    end\n";
 
 // Each datacentre reads its own value.
-const EACH_OWN: &[u8] =
-    b"chariots 1\ndatacentres 2\nround 1\nsession A\nput x =a\nget x\nsession B\nput x =b\nget x\nsteps\nend\n";
+const EACH_OWN: &[u8] = b"\
+    chariots 1\n\
+    datacentres 2\n\
+    round 1\n\
+    session A\n\
+    put x =a\n\
+    get x\n\
+    session B\n\
+    put x =b\n\
+    get x\n\
+    steps\n\
+    end\n";
 
 // The longest transaction, with a key that nobody put.
-const SIXTEEN_KEYS: &[u8] =
-    b"chariots 1\ndatacentres 1\nround 1\nsession A\nput a =1\ntx a b a a a a a a a a a a a a a a\nsteps\nend\n";
+const SIXTEEN_KEYS: &[u8] = b"\
+    chariots 1\n\
+    datacentres 1\n\
+    round 1\n\
+    session A\n\
+    put a =1\n\
+    tx a b a a a a a a a a a a a a a a\n\
+    steps\n\
+    end\n";
 
 // Three datacentres with stages of several members.
-const LIKES: &[u8] =
-    b"chariots 1\ndatacentres 3\nround 4\nstages A 2 2 2 3 2 1 1\nstages B 1 1 1 2 1 1 1\nsession A\nput album =p1\nappend =ann-likes-p1 likes\nget album\nsession B\nput album =p2\ntx album likes\nsession C\nlast likes 2\nput note =seen\nsteps\nend\n";
+const LIKES: &[u8] = b"\
+    chariots 1\n\
+    datacentres 3\n\
+    round 4\n\
+    stages A 2 2 2 3 2 1 1\n\
+    stages B 1 1 1 2 1 1 1\n\
+    session A\n\
+    put album =p1\n\
+    append =ann-likes-p1 likes\n\
+    get album\n\
+    session B\n\
+    put album =p2\n\
+    tx album likes\n\
+    session C\n\
+    last likes 2\n\
+    put note =seen\n\
+    steps\n\
+    end\n";
 
 // A session whose vector is below the floor waits for it.
-const BELOW: &[u8] =
-    b"chariots 1\ndatacentres 1\nround 1\nstages A 1 1 1 2 1 1 1\nsession A\nput x =1\nput x =2\nput x =3\nsession A\nget x\nsteps\nclient 0\nflush A 0\npass A 0 0\nstamp A 0\nclient 0\nflush A 0\npass A 0 0\nstamp A 0\nplace A 0 0\nplace A 0 1\ngossip A 0 1\ngossip A 1 0\nclient 0\nflush A 0\npass A 0 0\nstamp A 0\nplace A 0 0\ngossip A 0 0\npost A 0 0\npost A 1 0\nfloor A 3\nclient 1\ngossip A 0 1\nclient 1\nend\n";
+const BELOW: &[u8] = b"\
+    chariots 1\n\
+    datacentres 1\n\
+    round 1\n\
+    stages A 1 1 1 2 1 1 1\n\
+    session A\n\
+    put x =1\n\
+    put x =2\n\
+    put x =3\n\
+    session A\n\
+    get x\n\
+    steps\n\
+    client 0\n\
+    flush A 0\n\
+    pass A 0 0\n\
+    stamp A 0\n\
+    client 0\n\
+    flush A 0\n\
+    pass A 0 0\n\
+    stamp A 0\n\
+    place A 0 0\n\
+    place A 0 1\n\
+    gossip A 0 1\n\
+    gossip A 1 0\n\
+    client 0\n\
+    flush A 0\n\
+    pass A 0 0\n\
+    stamp A 0\n\
+    place A 0 0\n\
+    gossip A 0 0\n\
+    post A 0 0\n\
+    post A 1 0\n\
+    floor A 3\n\
+    client 1\n\
+    gossip A 0 1\n\
+    client 1\n\
+    end\n";
 
 // The last records with a tag, before there are any and after.
-const LAST_TWO: &[u8] =
-    b"chariots 1\ndatacentres 1\nround 1\nsession A\nlast t 2\nappend =a t\nappend =b t t\nappend =c t\nlast t 2\nsteps\nend\n";
+const LAST_TWO: &[u8] = b"\
+    chariots 1\n\
+    datacentres 1\n\
+    round 1\n\
+    session A\n\
+    last t 2\n\
+    append =a t\n\
+    append =b t t\n\
+    append =c t\n\
+    last t 2\n\
+    steps\n\
+    end\n";
 
 // Two messages are lost.
-const LOST: &[u8] =
-    b"chariots 1\ndatacentres 2\nround 1\nsession A\nput x =1\nsteps\nclient 0\nflush A 0\npass A 0 0\nstamp A 0\nplace A 0 0\nsend A 0 B\nlose A B 1\nsend A 0 B\nlose A B 1\nend\n";
+const LOST: &[u8] = b"\
+    chariots 1\n\
+    datacentres 2\n\
+    round 1\n\
+    session A\n\
+    put x =1\n\
+    steps\n\
+    client 0\n\
+    flush A 0\n\
+    pass A 0 0\n\
+    stamp A 0\n\
+    place A 0 0\n\
+    send A 0 B\n\
+    lose A B 1\n\
+    send A 0 B\n\
+    lose A B 1\n\
+    end\n";
 
 // A script, and the report of its run.
 struct Row {

@@ -7,46 +7,160 @@ use std::alloc::Global;
 use std::process::Abort;
 use std::test::Fail;
 
-const NO_SESSION: &[u8] = b"chariots 1\ndatacentres 1\nround 1\nsteps\nend";
+const NO_SESSION: &[u8] = b"\
+    chariots 1\n\
+    datacentres 1\n\
+    round 1\n\
+    steps\n\
+    end";
 
-const ONE_APPEND: &[u8] =
-    b"chariots 1\ndatacentres 1\nround 1\nsession A\nappend =hi\nsteps\nend\n";
+const ONE_APPEND: &[u8] = b"\
+    chariots 1\n\
+    datacentres 1\n\
+    round 1\n\
+    session A\n\
+    append =hi\n\
+    steps\n\
+    end\n";
 
-const ONE_GET: &[u8] = b"chariots 1\ndatacentres 1\nround 1\nsession A\nget x\nsteps\nend\n";
+const ONE_GET: &[u8] = b"\
+    chariots 1\n\
+    datacentres 1\n\
+    round 1\n\
+    session A\n\
+    get x\n\
+    steps\n\
+    end\n";
 
-const ONE_MARK: &[u8] = b"chariots 1\ndatacentres 1\nround 1\nsteps\nmark A\nend\n";
+const ONE_MARK: &[u8] = b"\
+    chariots 1\n\
+    datacentres 1\n\
+    round 1\n\
+    steps\n\
+    mark A\n\
+    end\n";
 
-const SEVENTEEN_KEYS: &[u8] =
-    b"chariots 1\ndatacentres 1\nround 1\nsession A\ntx a b a a a a a a a a a a a a a a a\nsteps\nend\n";
+const SEVENTEEN_KEYS: &[u8] = b"\
+    chariots 1\n\
+    datacentres 1\n\
+    round 1\n\
+    session A\n\
+    tx a b a a a a a a a a a a a a a a a\n\
+    steps\n\
+    end\n";
 
-const TWO_MAINTAINERS: &[u8] =
-    b"chariots 1\ndatacentres 1\nround 2\nstages A 1 1 1 2 1 1 1\nsession A\nappend =a\nsession A\nappend =b\nread 3\nsession A\nappend =c\nsteps\nend\n";
+const TWO_MAINTAINERS: &[u8] = b"\
+    chariots 1\n\
+    datacentres 1\n\
+    round 2\n\
+    stages A 1 1 1 2 1 1 1\n\
+    session A\n\
+    append =a\n\
+    session A\n\
+    append =b\n\
+    read 3\n\
+    session A\n\
+    append =c\n\
+    steps\n\
+    end\n";
 
-const READ_BEYOND: &[u8] =
-    b"chariots 1\ndatacentres 1\nround 2\nstages A 1 1 1 2 1 1 1\nsession A\nappend =a\nsession A\nappend =b\nread 5\nsession A\nappend =c\nsteps\nend\n";
+const READ_BEYOND: &[u8] = b"\
+    chariots 1\n\
+    datacentres 1\n\
+    round 2\n\
+    stages A 1 1 1 2 1 1 1\n\
+    session A\n\
+    append =a\n\
+    session A\n\
+    append =b\n\
+    read 5\n\
+    session A\n\
+    append =c\n\
+    steps\n\
+    end\n";
 
 // A record with tags, read twice: before its session's own write is in the log, and after it.
-const TAGGED: &[u8] =
-    b"# two sessions\nchariots 1\ndatacentres 1\nround 1\n\nsession A\nappend =x t u\nread 1\nsession A\nread 1\nread 1\nsteps\nend";
+const TAGGED: &[u8] = b"\
+    # two sessions\n\
+    chariots 1\n\
+    datacentres 1\n\
+    round 1\n\
+    \n\
+    session A\n\
+    append =x t u\n\
+    read 1\n\
+    session A\n\
+    read 1\n\
+    read 1\n\
+    steps\n\
+    end";
 
-const SPACED: &[u8] = b"chariots 1\ndatacentres 1\nround  1\nsteps\nend\n";
+const SPACED: &[u8] = b"\
+    chariots 1\n\
+    datacentres 1\n\
+    round  1\n\
+    steps\n\
+    end\n";
 
-const TWICE: &[u8] =
-    b"chariots 1\ndatacentres 1\nround 1\nstages A 1 1 1 2 1 1 1\nstages A 1 1 1 2 1 1 1\nsteps\nend\n";
+const TWICE: &[u8] = b"\
+    chariots 1\n\
+    datacentres 1\n\
+    round 1\n\
+    stages A 1 1 1 2 1 1 1\n\
+    stages A 1 1 1 2 1 1 1\n\
+    steps\n\
+    end\n";
 
-const AFTER_END: &[u8] = b"chariots 1\ndatacentres 1\nround 1\nsteps\nend\n# a comment\nend\n";
+const AFTER_END: &[u8] = b"\
+    chariots 1\n\
+    datacentres 1\n\
+    round 1\n\
+    steps\n\
+    end\n\
+    # a comment\n\
+    end\n";
 
-const READ_0: &[u8] = b"chariots 1\ndatacentres 1\nround 1\nsession A\nread 0\nsteps\nend\n";
+const READ_0: &[u8] = b"\
+    chariots 1\n\
+    datacentres 1\n\
+    round 1\n\
+    session A\n\
+    read 0\n\
+    steps\n\
+    end\n";
 
-const NINE_DATACENTRES: &[u8] = b"chariots 1\ndatacentres 9\nround 1\nsteps\nend\n";
+const NINE_DATACENTRES: &[u8] = b"\
+    chariots 1\n\
+    datacentres 9\n\
+    round 1\n\
+    steps\n\
+    end\n";
 
-const TWO_DATACENTRES: &[u8] = b"chariots 1\ndatacentres 2\nround 1\nsteps\nend\n";
+const TWO_DATACENTRES: &[u8] = b"\
+    chariots 1\n\
+    datacentres 2\n\
+    round 1\n\
+    steps\n\
+    end\n";
 
 // Only settling brings the record into the log, and to the other datacentre.
-const TOLD_TO_ANOTHER: &[u8] =
-    b"chariots 1\ndatacentres 2\nround 1\nsession A\nappend =hi\nsteps\nend\n";
+const TOLD_TO_ANOTHER: &[u8] = b"\
+    chariots 1\n\
+    datacentres 2\n\
+    round 1\n\
+    session A\n\
+    append =hi\n\
+    steps\n\
+    end\n";
 
-const UNKNOWN: &[u8] = b"chariots 1\ndatacentres 1\nround 1\nsession A\nappends =x\nsteps\nend\n";
+const UNKNOWN: &[u8] = b"\
+    chariots 1\n\
+    datacentres 1\n\
+    round 1\n\
+    session A\n\
+    appends =x\n\
+    steps\n\
+    end\n";
 
 // A script, the words and which calls fail, and what the program then ends with and writes.
 struct Case {
@@ -270,8 +384,12 @@ fn the_top_call_replays(rt: HostRuntime) -> Result<(), Fail> {
     Ok(())
 }
 
-const ONE_APPEND_REPORT: &[u8] =
-    b"log A 1\n1 A:1 append 0 1 0 =hi\nreplies\n0 1 written 1 A:1\nend\n";
+const ONE_APPEND_REPORT: &[u8] = b"\
+    log A 1\n\
+    1 A:1 append 0 1 0 =hi\n\
+    replies\n\
+    0 1 written 1 A:1\n\
+    end\n";
 
 // Replays the script with one append, one byte in each call, where these calls fail.
 fn bytewise(

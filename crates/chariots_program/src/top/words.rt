@@ -6,8 +6,14 @@ use std::alloc::Global;
 use std::process::Abort;
 use std::test::Fail;
 
-const ONE_APPEND: &[u8] =
-    b"chariots 1\ndatacentres 1\nround 1\nsession A\nappend =hi\nsteps\nend\n";
+const ONE_APPEND: &[u8] = b"\
+    chariots 1\n\
+    datacentres 1\n\
+    round 1\n\
+    session A\n\
+    append =hi\n\
+    steps\n\
+    end\n";
 
 // Words, and the status of a call with them and a script of one append.
 struct Case {
