@@ -28,7 +28,7 @@ no_events true z o = refl
 no_events false z o = refl
 
 -- what is the same did not change
-not_changed : {X : Type 0} (changed : Bool) (old new : X) → old ≡ new → TellsApart changed old new → changed ≡ false
+pub not_changed : {X : Type 0} (changed : Bool) (old new : X) → old ≡ new → TellsApart changed old new → changed ≡ false
 not_changed false old new same tells = refl
 not_changed true old new same tells = absurd (tells.other refl same)
 

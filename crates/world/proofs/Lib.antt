@@ -6,6 +6,7 @@ pub mod LeftLemmas
 pub mod TakingLemmas
 pub mod MovingLemmas
 pub mod IdleLemmas
+pub mod LinkIdle
 pub mod RoundLemmas
 pub mod QuietLemmas
 pub mod KnownLemmas

@@ -1,5 +1,6 @@
 -- What the turns of the code leave is what those of the stage world leave.
 use Rattle.std.proofs.Common.{◌≡◌, ℕ, ◌<◌, true, false, ltb, List, [], length, map, get_or, refl, ap, ap₂, sym, ◌∙◌, subst, arith, Option, Some, None, is_some, Result, Ok, Err, IfOk, OnOk}
+use Rattle.std.specs.List.{All}
 use Rattle.std.specs.Option.{ForSome, option_map, option_map_or}
 use Rattle.std.proofs.Math.ListN.{get_or-map}
 use Rattle.std.proofs.lemmas.List.{length-map}
@@ -50,7 +51,7 @@ links_there dcs z old d e h in_d in_e =
     record { from = omega (arith, in_d, rows_there dcs z old h); to = omega (arith, in_e, row) }
 
 -- the packets of a link
-packets_are : (dcs : ℕ) (z : Stages) (old : Network) (d e : ℕ) → Shows dcs z old → packets_at old.links d e ≡ packets_of dcs (link_at z d e)
+pub packets_are : (dcs : ℕ) (z : Stages) (old : Network) (d e : ℕ) → Shows dcs z old → packets_at old.links d e ≡ packets_of dcs (link_at z d e)
 packets_are dcs z old d e h = ap (λ ls. packets_at ls d e) h.links ∙ packets_at_is dcs z.links d e
 
 -- A step of a stage of one datacentre
@@ -343,19 +344,26 @@ message_from dcs z d e k packet (Some m) is some = record { message = m; there =
 pub message_there : (dcs : ℕ) (z : Stages) (old : Network) (d e k : ℕ) (packet : List ℕ) → Shows dcs z old → Some packet ≡ message_at (packets_at old.links d e) k → IsMessageOf dcs z d e k packet
 message_there dcs z old d e k packet h is = message_from dcs z d e k packet (message_at (link_at z d e) k) refl (is ∙ packet_is dcs z old d e k h)
 
+-- so few datacentres
+pub few_of : (load : Workload) (step : Step) (z : Stages) (old : Network) → MayStep load step z old → load.dcs ≤ 8
+few_of load step z old may = subst (λ (l : Workload). l.dcs ≤ 8) may.same may.lawful.shape.workload.few
+
+-- each message of a link has its bytes
+pub all_spelled : (load : Workload) (step : Step) (z : Stages) (old : Network) → MayStep load step z old → (d e : ℕ) → d < load.dcs → All (λ m. SpellsMessage load.dcs (message_bytes load.dcs m) m) (link_at z d e)
+all_spelled load step z old may d e within =
+    subst (λ n. All (λ m. SpellsMessage n (message_bytes n m) m) (link_at z d e)) (dcs_same load step z old may)
+    (links_spelled may.world z d e may.lawful may.stands (omega (arith, within, dcs_same load step z old may)))
+
 -- a packet of a link that stands for a world spells its message
 message_spelled : (load : Workload) (d e k r : ℕ) (z : Stages) (old : Network) (packet : List ℕ) → MayStep load (Deliver d e k r) z old → (of : IsMessageOf load.dcs z d e k packet)
     → SpellsMessage (length (datacentre_at z e).table) packet of.message
 message_spelled load d e k r z old packet may of =
     let step : Step = Deliver d e k r in
-    let w : World = may.world in
-    let dcs : w.workload.dcs ≡ load.dcs = dcs_same load step z old may in
-    let spells : SpellsMessage w.workload.dcs (message_bytes w.workload.dcs of.message) of.message =
-    All-contains (λ m. SpellsMessage w.workload.dcs (message_bytes w.workload.dcs m) m) (link_at z d e) of.message
-    (links_spelled w z d e may.lawful may.stands (omega (arith, may.fits.first, dcs))) (in_taken (link_at z d e) k of.message of.there) in
+    let spells : SpellsMessage load.dcs (message_bytes load.dcs of.message) of.message =
+    All-contains (λ m. SpellsMessage load.dcs (message_bytes load.dcs m) m) (link_at z d e) of.message
+    (all_spelled load step z old may d e may.fits.first) (in_taken (link_at z d e) k of.message of.there) in
     subst (λ b. SpellsMessage (length (datacentre_at z e).table) b of.message) (sym of.spelled)
-    (subst (λ n. SpellsMessage n (message_bytes load.dcs of.message) of.message) (sym (rows_are load step z old may e may.fits.second))
-    (subst (λ n. SpellsMessage n (message_bytes n of.message) of.message) dcs spells))
+    (subst (λ n. SpellsMessage n (message_bytes load.dcs of.message) of.message) (sym (rows_are load step z old may e may.fits.second)) spells)
 
 pub may_receive : (load : Workload) (d e k r : ℕ) (z : Stages) (old : Network) (packet : List ℕ) → MayStep load (Deliver d e k r) z old → Some packet ≡ message_at (packets_at old.links d e) k → MayReceiveAt e d packet old.datacentres
 may_receive load d e k r z old packet may is =

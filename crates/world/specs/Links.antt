@@ -22,12 +22,6 @@ pub record AreThere (d e : ℕ) (links : List (List (List (List ℕ)))) : Type 0
 abbrev pub lose_outcome : Option (List ℕ) → Outcome
 lose_outcome o = option_map_or (λ packet. Lost) o Absent
 
--- there was a packet to be copied
-abbrev pub is_copied : Copied → Bool
-is_copied NoPacket = false
-is_copied Done = true
-is_copied (Overflow packet) = true
-
 -- what is answered to a copy once so many packets are in the link
 abbrev pub outcome_of_copy : Copied → ℕ → Outcome
 outcome_of_copy NoPacket n = Absent

@@ -2,10 +2,11 @@
 ghost use Rattle.std.specs.Prelude.{◌≡◌, ◌<◌, ℕ, false, true, [], if◌then◌else◌, is_some, length, None, List, OnOk, IfOk};
 ghost use Rattle.std.specs.Option.{ForSome};
 ghost use Rattle.abstract_log.specs.declared.script.Outcome.TheVariants.{Absent, Lost, Sent};
+ghost use Rattle.stage_world.specs.Idle.{TellsApart};
 ghost use Rattle.lossy_links.specs.Links.{copied, lost_by_put, message_at, put_last, without};
-ghost use Rattle.world.specs.Links.{AreThere, copy_outcome, is_copied, lose_outcome, outcome_of_copy, packets_at, with_packets};
+ghost use Rattle.world.specs.Links.{AreThere, copy_outcome, lose_outcome, outcome_of_copy, packets_at, with_packets};
 
-use crate::packets::{copy, packets_in, put, take_out};
+use crate::packets::{CopyDone, copy, packets_in, put, take_out};
 use abstract_log::Outcome;
 use cz_base::{DcId, NoMemory, Seq};
 use datacentre::TurnDone;
@@ -24,20 +25,20 @@ pub(crate) fn put_sent(
     ensures links { ForSome packet (λ bytes. links.new ≡ with_packets links.old d e (put_last (packets_at links.old d e) bytes)) }
     ensures outcome { ForSome packet (λ bytes. (names : List (ℕ × ℕ)) → done.outcome ≡ Sent names 0 false → result.outcome ≡ Sent names (length (packets_at links.new d e)) (is_some (lost_by_put (packets_at links.old d e)))) }
     ensures events { result.events ≡ done.events }
-    ensures changed { ForSome packet (λ _. result.changed ≡ true) }
+    ensures changed { ForSome packet (λ bytes. TellsApart result.changed (packets_at links.old d e) (put_last (packets_at links.old d e) bytes)) }
 {
     let Some(packet) = packet else {
         return done;
     };
-    let lost = put(links, d, e, packet);
-    in_link(done, packets_in(links, d, e), lost)
+    let put = put(links, d, e, packet);
+    in_link(done, packets_in(links, d, e), put.lost, put.changed)
 }
 
 // What is answered to a send once its packet is in the link.
-fn in_link(done: TurnDone, link: u32, lost: bool) -> TurnDone
+fn in_link(done: TurnDone, link: u32, lost: bool, changed: bool) -> TurnDone
     ensures outcome { (names : List (ℕ × ℕ)) → done.outcome ≡ Sent names 0 false → result.outcome ≡ Sent names link lost }
     ensures events { result.events ≡ done.events }
-    ensures changed { result.changed ≡ true }
+    ensures changed { result.changed ≡ changed }
 {
     let TurnDone {
         outcome,
@@ -51,7 +52,7 @@ fn in_link(done: TurnDone, link: u32, lost: bool) -> TurnDone
     TurnDone {
         outcome,
         events,
-        changed: true,
+        changed,
     }
 }
 
@@ -105,27 +106,15 @@ pub(crate) fn copy_packet(
     ensures links { OnOk result (links.new ≡ with_packets links.old d e (copied (packets_at links.old d e) k)) }
     ensures outcome { IfOk result (λ done. done.outcome ≡ copy_outcome (packets_at links.old d e) k (length (packets_at links.new d e))) }
     ensures events { IfOk result (λ done. done.events ≡ []) }
-    ensures changed { IfOk result (λ done. done.changed ≡ is_some (message_at (packets_at links.old d e) k)) }
+    ensures changed { IfOk result (λ done. TellsApart done.changed (packets_at links.old d e) (copied (packets_at links.old d e) k)) }
 {
     let alloc = links.alloc();
-    let answer = copy(links, d, e, k)?;
-    let changed = was_copied(&answer);
+    let CopyDone { answer, changed } = copy(links, d, e, k)?;
     Ok(TurnDone {
         outcome: answered_to_copy(answer, packets_in(links, d, e)),
         events: Seq::new(alloc),
         changed,
     })
-}
-
-// Whether there was a packet to be copied.
-fn was_copied(answer: &Copied) -> bool
-    ensures { result ≡ is_copied answer.now }
-{
-    match answer {
-        Copied::Absent => false,
-        Copied::Done => true,
-        Copied::Overflow(_) => true,
-    }
 }
 
 fn answered_to_copy(answer: Copied, link: u32) -> Outcome

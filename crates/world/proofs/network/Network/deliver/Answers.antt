@@ -1,7 +1,7 @@
 use Rattle.std.proofs.Common.{◌∙◌, ap, sym, refl, is_some, true, false}
 use Rattle.stage_turns.specs.declared.done.TurnDone.{TurnDone}
 use Rattle.stage_world.specs.Whole.{datacentre_at}
-use Rattle.world.proofs.IdleLemmas.{delivered_told, no_receiver_told}
+use Rattle.world.proofs.LinkIdle.{delivered_told, no_receiver_told}
 use Rattle.world.proofs.MovingLemmas.{changed_moves, deliver_absent, deliver_empty, deliver_moves, links_there, may_ask, may_receive, seen_at}
 use Rattle.world.proofs.network.Network.deliver.Goals as goal
 
@@ -16,7 +16,7 @@ returns-then-not-has_receiver-clause-moved c z may =
 pub returns-then-not-has_receiver-clause-told : goal.returns-then-not-has_receiver-clause-told
 returns-then-not-has_receiver-clause-told c z may =
     let none = sym (c.has_receiver.ensures (datacentre_at z c.args.e) (seen_at _ z _ c.args.e may.shown may.fits.second)) ∙ c.if-not-has_receiver.true in
-    no_receiver_told c.args._workload.now z c.args.d c.args.e c.args.k c.args.r _ none (ap (λ (x : TurnDone). x.changed) c.absent.ensures)
+    no_receiver_told c.args._workload.now z _ c.args.d c.args.e may.shown may.fits.first may.fits.second c.args.k c.args.r _ none (ap (λ (x : TurnDone). x.changed) c.absent.ensures)
 
 pub take_out-requires : goal.take_out-requires
 take_out-requires c = links_there _ _ _ _ _ c.requires.1.shown c.requires.1.fits.first c.requires.1.fits.second
@@ -29,7 +29,7 @@ returns-in_default-clause-moved c z may =
 pub returns-in_default-clause-told : goal.returns-in_default-clause-told
 returns-in_default-clause-told c z may =
     let there = sym (c.has_receiver.ensures (datacentre_at z c.args.e) (seen_at _ z _ c.args.e may.shown may.fits.second)) ∙ c.if-not-has_receiver.false in
-    delivered_told c.args._workload.now z _ c.args.d c.args.e c.args.k c.args.r false _ may.shown there (ap is_some (sym (sym c.in_default.is ∙ c.take_out.ensures.packet))) (ap (λ (x : TurnDone). x.changed) c.absent-in_default.ensures)
+    delivered_told c.args._workload.now z _ c.args.d c.args.e may.shown may.fits.first may.fits.second c.args.k c.args.r _ there (ap (λ (x : TurnDone). x.changed) c.absent-in_default.ensures ∙ ap is_some (sym c.in_default.is ∙ c.take_out.ensures.packet))
 
 pub receive-requires : goal.receive-requires
 receive-requires c = may_receive _ _ _ _ _ _ _ _ c.requires.1 (sym c.in-Some.is ∙ c.take_out.ensures.packet)
@@ -45,4 +45,4 @@ returns-clause-moved c z may =
 pub returns-clause-told : goal.returns-clause-told
 returns-clause-told c z may =
     let there = sym (c.has_receiver.ensures (datacentre_at z c.args.e) (seen_at _ z _ c.args.e may.shown may.fits.second)) ∙ c.if-not-has_receiver.false in
-    delivered_told c.args._workload.now z _ c.args.d c.args.e c.args.k c.args.r true _ may.shown there (ap is_some (sym (sym c.in-Some.is ∙ c.take_out.ensures.packet))) (ap (λ (x : TurnDone). x.changed) c.with_change.ensures)
+    delivered_told c.args._workload.now z _ c.args.d c.args.e may.shown may.fits.first may.fits.second c.args.k c.args.r _ there (ap (λ (x : TurnDone). x.changed) c.with_change.ensures ∙ ap is_some (sym c.in-Some.is ∙ c.take_out.ensures.packet))

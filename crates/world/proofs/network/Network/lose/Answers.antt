@@ -1,5 +1,5 @@
 use Rattle.std.proofs.Common.{refl}
-use Rattle.world.proofs.IdleLemmas.{lost_told}
+use Rattle.world.proofs.LinkIdle.{lost_told}
 use Rattle.world.proofs.MovingLemmas.{links_there, lose_moves}
 use Rattle.world.proofs.network.Network.lose.Goals as goal
 
@@ -10,4 +10,4 @@ pub returns-clause-moved : goal.returns-clause-moved
 returns-clause-moved c z may = lose_moves c.args._workload.now z _ _ _ _ _ _ may.shown may.fits.first refl c.lose_packet.ensures.links c.lose_packet.ensures.outcome c.lose_packet.ensures.events
 
 pub returns-clause-told : goal.returns-clause-told
-returns-clause-told c z may = lost_told c.args._workload.now z _ c.args.d c.args.e c.args.k _ may.shown c.lose_packet.ensures.changed
+returns-clause-told c z may = lost_told c.args._workload.now z _ c.args.d c.args.e may.shown may.fits.first may.fits.second c.args.k _ c.lose_packet.ensures.changed
