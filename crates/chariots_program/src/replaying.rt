@@ -5,8 +5,7 @@ ghost use Rattle.cz_base.specs.Faults.{Rose};
 ghost use Rattle.abstract_log.specs.Fits.{FitsLimits, FitsScript};
 ghost use Rattle.abstract_log.specs.Left.{left_of};
 ghost use Rattle.abstract_log.specs.Runs.{IsRun, world_of};
-ghost use Rattle.script_text.specs.Spelled.{IsBuiltStep};
-ghost use Rattle.script_text.specs.Steps.{FitsStep};
+ghost use Rattle.abstract_log.specs.Turns.{FitsStep, IsBuiltStep};
 ghost use Rattle.chariots_program.specs.Ending.{IsRefusedFor, WasRead, WritesFront, text_of};
 ghost use Rattle.chariots_program.specs.Telling.{IsTold, IsToldOfSource};
 

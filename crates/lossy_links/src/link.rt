@@ -90,6 +90,18 @@ impl Link {
         self.packets.len() == PACKETS && are_all(&self.packets, packet)
     }
 
+    /// Whether a copy of packet k would leave the link as it is: there is no packet k, or the link is full of packets with its
+    /// bytes. No memory is taken.
+    pub fn is_kept_by_copy(&self, k: u32) -> bool
+        ensures { IsTrue result ↔ (copied self.now k ≡ self.now) }
+    {
+        let k = k as usize;
+        if k == 0 || self.packets.len() < k {
+            return true;
+        }
+        self.is_full_of(&self.packets[k - 1])
+    }
+
     /// Takes packet k out, or answers `None` exactly where there is none. No memory is taken.
     pub fn deliver(&mut self, k: u32) -> Option<Packet>
         ensures packet { result ≡ message_at self.old k }

@@ -4,8 +4,7 @@ ghost use Rattle.std.specs.Prelude.{◌≡◌, true, false, List, [], ◌∷◌,
 ghost use Rattle.abstract_log.specs.declared.script.Script.{Script as ScriptValue};
 ghost use Rattle.abstract_log.specs.Fits.{FitsScript};
 ghost use Rattle.abstract_log.specs.Runs.{IsRun};
-ghost use Rattle.stage_world.specs.Schedules.{IsStep};
-ghost use Rattle.world.specs.Showing.{IsBuiltStep};
+ghost use Rattle.abstract_log.specs.Turns.{IsBuiltStep, IsStep};
 ghost use Rattle.world.specs.Taking.{lines_told};
 
 use crate::leaving::leave;
