@@ -8,8 +8,8 @@ ghost use Rattle.world.specs.Settled.{AreAnswered, HasLooped, MayBePlayed, Plays
 ghost use Rattle.world.specs.Taking.{IsTaken};
 
 use crate::exchanges::{Errand, errands};
-use crate::settling_state::{all_of, answering, is_answering, is_due, is_unfinished, rounds};
 use crate::packets::packets_in;
+use crate::settling_state::{all_of, answering, is_answering, is_due, is_unfinished, rounds};
 use crate::stages::Stages;
 use abstract_log::Step;
 use cz_base::{DcId, NoMemory};

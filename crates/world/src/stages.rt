@@ -8,8 +8,8 @@ ghost use Rattle.abstract_log.specs.Turns.{IsBuiltStep, IsStep};
 ghost use Rattle.world.specs.Taking.{lines_told};
 
 use crate::leaving::leave;
-use crate::opening::open_network;
 use crate::network::Network;
+use crate::opening::open_network;
 use abstract_log::{Event, Left, Outcome, Run, Script, StageLine, StageLog, Step, Workload};
 use cz_base::{NoMemory, Seq};
 use std::alloc::Global;
