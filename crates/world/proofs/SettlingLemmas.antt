@@ -68,7 +68,7 @@ module _ (load : Workload) (d : ℕ) (z : Datacentre) (within : d < load.dcs) wh
 
 -- the sessions of a datacentre are there
 sessions_there : (w : World) (d : ℕ) (z : Datacentre) → StandsAt w d z → All (λ (x : Session). x.number < length w.workload.sessions) z.sessions
-sessions_there w d z stands = All-weaker (IsAsFar w.workload w.sessions (log_of w d) d z.floor) (λ (x : Session). x.number < length w.workload.sessions) (λ x far. far.home.there) z.sessions stands.sessions
+sessions_there w d z stands = All-weaker (IsAsFar w.workload w.sessions (log_of w d) d z.floor) (λ (x : Session). x.number < length w.workload.sessions) (λ x far. far.home.there) z.sessions stands.clients.sessions
 
 pub rounds_may : (script : Script) (ts : List Taken) (s : StagesState) (ds : List ℕ) → HasTaken script ts s → All (λ d. d < s.workload.dcs) ds → MayBePlayed s.workload (rounds (stages_after script ts) ds)
 rounds_may script ts s ds h there =
