@@ -1,4 +1,6 @@
-//! Worked rows of the filters and of the batcher, as tables of tests. It has no code of its own and
+//! Rows of the filters and of the batcher.
+//!
+//! Each file is a table of rows worked by hand and the tests that go through it. The crate has no code of its own and
 //! proves nothing for others.
 #![tactic(auto)]
 

@@ -1,5 +1,7 @@
-//! Worked rows of the queues and the token, as tables of tests. It has no code of its own and proves
-//! nothing for others.
+//! Rows of the queues and the token.
+//!
+//! `queues` has tables of rows worked by hand and the tests that go through them, and `given` makes what they need. The
+//! crate has no code of its own and proves nothing for others.
 #![tactic(auto)]
 
 #[cfg(test)]
