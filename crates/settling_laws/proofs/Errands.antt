@@ -111,7 +111,7 @@ module _ (load : Workload) (z : Stages) (h : IsStanding load z) (d k e : ℕ) (i
   freed = with_link y d e (without (link_at y d e) n)
 
   receivers : 0 < (datacentre_at z e).receivers
-  receivers = omega (arith, (stands_at load e (datacentre_at z e) (live_at load e z in_e h)).members.ranges.receivers.0)
+  receivers = omega (arith, (stands_at load e (datacentre_at z e) (live_at load e z in_e h)).membership.members.ranges.receivers.0)
 
   delivered_is : step_of load y deliver ≡ moved_at freed e (receive_turn e (datacentre_at z e) 0 m)
   delivered_is =

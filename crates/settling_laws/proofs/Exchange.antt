@@ -88,13 +88,13 @@ module _ (load : Workload) (z : Stages) (h : IsStanding load z) (x : Errand) (go
 
   -- the table knows no more than the other has
   known_most : known ≤ count_of (log_of w x.to) x.from
-  known_most = omega (arith, ap (λ t. entry_of t x.to x.from) stands.aware.same, h.lawful.tables x.from x.to x.from, h.lawful.own_rows x.to x.from)
+  known_most = omega (arith, ap (λ t. entry_of t x.to x.from) stands.knowledge.aware.same, h.lawful.tables x.from x.to x.from, h.lawful.own_rows x.to x.from)
 
   abbrev IsStock : Stocked → Type 0
   IsStock y = IsEntryOf (log_of w x.from) (record { lid = y.lid; value = y.rec })
 
   all_stock : All IsStock (stock_of v.maintainers x.sender v.senders)
-  all_stock = All-stock IsStock x.sender v.senders v.maintainers stands.placed.entries
+  all_stock = All-stock IsStock x.sender v.senders v.maintainers stands.positions.placed.entries
 
   -- the next record is told, or it is there already
   next_told : (q : Record) → IsNext z x q → (q.toid ≤ count_of (log_of w x.to) x.from) ⊎ Contains m.records q

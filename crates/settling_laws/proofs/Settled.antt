@@ -95,7 +95,7 @@ finished_where load z h answered same = record {
     dcs_are = ap (λ (l : Workload). l.dcs) h.workload
 
     counts : (d e g : ℕ) → d < load.dcs → e < load.dcs → count_of (log_of h.world d) g ≡ count_of (log_of h.world e) g
-    counts d e g in_d in_e = sym ((stands_here load z d in_d h).counted.each g) ∙ same d e g in_d in_e ∙ (stands_here load z e in_e h).counted.each g
+    counts d e g in_d in_e = sym ((stands_here load z d in_d h).positions.counted.each g) ∙ same d e g in_d in_e ∙ (stands_here load z e in_e h).positions.counted.each g
 
     have : (d e g t : ℕ) → d < h.world.workload.dcs → t ≤ count_of (log_of h.world e) g → 1 ≤ t → t ≤ count_of (log_of h.world d) g
     have d e g t in_d counted first = elim (cases_lt e load.dcs) [
@@ -128,12 +128,12 @@ finished_where load z h answered same = record {
         let in_h : home < load.dcs = omega (arith, h.lawful.shape.workload.homes s in_load, dcs_are) in
         let v : Datacentre = datacentre_at z home in
         let stands : StandsAt h.world home v = stands_here load z home in_h h in
-        let there = stands.present s (record { there = in_load; home = refl }) in
+        let there = stands.clients.present s (record { there = in_load; home = refl }) in
         let k : ℕ = there.0 in
         let inside : k < length v.sessions = omega (arith, there.1, length-map v.sessions (λ (x : Session). x.number)) in
         let x : Session = get_or v.sessions k (record { number = 0; commands = []; standing = standing_of h.world s; pin = None; found = [] }) in
         let number : x.number ≡ s = sym (get_or-map (λ (y : Session). y.number) v.sessions k (record { number = 0; commands = []; standing = standing_of h.world s; pin = None; found = [] }) s inside) ∙ there.2 in
-        let far = stands.sessions k (record { number = 0; commands = []; standing = standing_of h.world s; pin = None; found = [] }) inside in
+        let far = stands.clients.sessions k (record { number = 0; commands = []; standing = standing_of h.world s; pin = None; found = [] }) inside in
         let idle : has_unanswered v ≡ false = none_any has_unanswered z.datacentres answered home nowhere_at (omega (arith, in_h, dcs_of load z h)) in
         let done : length x.commands ≤ x.standing.answered = ltb-false x.standing.answered (length x.commands) (none_any is_unanswered v.sessions idle k (record { number = 0; commands = []; standing = standing_of h.world s; pin = None; found = [] }) inside) in
         let standing : x.standing ≡ standing_of h.world s = far.standing ∙ ap (standing_of h.world) number in
@@ -150,7 +150,7 @@ last_round load z h ended new ts r =
     let each : (d g : ℕ) → d < load.dcs → get_or (datacentre_at new d).token.counts g 0 ≡ writes_at load.sessions g = λ d g within.
     let was : count_of (log_of h.world d) g ≡ writes_at load.sessions g = whole.each d g (omega (arith, within, ap (λ (l : Workload). l.dcs) h.workload)) ∙ ap (λ (l : Workload). writes_at l.sessions g) h.workload in
     let most : count_of (log_of hn.world d) g ≤ writes_at load.sessions g = subst (λ (l : Workload). count_of (log_of hn.world d) g ≤ writes_at l.sessions g) hn.workload (hn.lawful.numbers d g) in
-    omega (arith, was, most, extends_counts (log_of h.world d) (log_of hn.world d) g (r.leads.behind.logs d), (stands_here load new d within hn).counted.each g) in
+    omega (arith, was, most, extends_counts (log_of h.world d) (log_of hn.world d) g (r.leads.behind.logs d), (stands_here load new d within hn).positions.counted.each g) in
     (no_answers load new hn (omega (arith, no_left z parts.0, r.no_more)), λ d e g in_d in_e. each d g in_d ∙ sym (each e g in_e))
   where
     from_not : (b : Bool) → not b ≡ false → b ≡ true

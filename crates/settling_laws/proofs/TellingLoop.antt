@@ -54,14 +54,14 @@ no_answers load z h none = at (is_answering z) refl
         let at_k : x ≡ some.0 = get_or_default v.sessions k no_session some.0 some.1.1 ∙ some.1.2 in
         let behind : x.standing.answered < length x.commands = subst (λ (y : Session). y.standing.answered < length y.commands) (sym at_k) (ltb-true some.0.standing.answered (length some.0.commands) some.2) in
         let stands : StandsAt h.world d v = stands_here load z d (omega (arith, one.1.1, dcs_of load z h)) h in
-        let left : 1 ≤ left_to x = left_some h.world.workload h.world.sessions (log_of h.world d) d v.floor x (stands.sessions k no_session some.1.1) behind in
+        let left : 1 ≤ left_to x = left_some h.world.workload h.world.sessions (log_of h.world d) d v.floor x (stands.clients.sessions k no_session some.1.1) behind in
         absurd (omega (arith, none, left, get_or-le-sum_by left_to v.sessions k no_session some.1.1, get_or-le-sum_by left_at z.datacentres d nowhere_at one.1.1))
 
 -- no log is longer than the limits allow
 total_most : (load : Workload) (z : Stages) → IsStanding load z → total z ≤ load.dcs * 16384
 total_most load z h =
     let most : total z ≤ length z.datacentres * 16384 = sum_by-le (λ (x : Datacentre). x.token.last) 16384 z.datacentres (All-from_get_or (λ (x : Datacentre). x.token.last ≤ 16384) z.datacentres nowhere_at
-    (λ d inside. omega (arith, (stands_here load z d (omega (arith, inside, dcs_of load z h)) h).counted.whole, h.lawful.few d))) in
+    (λ d inside. omega (arith, (stands_here load z d (omega (arith, inside, dcs_of load z h)) h).positions.counted.whole, h.lawful.few d))) in
     omega (arith, most, ap (λ n. n * 16384) (dcs_of load z h))
 
 module _ (load : Workload) (z : Stages) (h : IsStanding load z) where
