@@ -73,16 +73,16 @@ module _ (load : Workload) (s0 s1 s2 s3 : Stages) (h0 : IsStanding load s0) (ts0
 
   -- exchanges leave the tokens
   token_1 : (d : ℕ) → (datacentre_at s1 d).token ≡ (datacentre_at t0.mid d).token
-  token_1 d = ap (λ (v : Datacentre). v.token) (t0.swapped.beside d).rest
+  token_1 d = ap (λ (v : Datacentre). v.token) (t0.swapped.beside.each d).rest
 
   token_2 : (d : ℕ) → (datacentre_at s2 d).token ≡ (datacentre_at t1.mid d).token
-  token_2 d = ap (λ (v : Datacentre). v.token) (t1.swapped.beside d).rest
+  token_2 d = ap (λ (v : Datacentre). v.token) (t1.swapped.beside.each d).rest
 
   -- no announcement comes
   quiet_2 : AreQuiet load t2.mid
   quiet_2 d within =
-      (t2.rounded.members d within).announcement ∙ ap (λ (v : Datacentre). v.announcement) (t1.swapped.beside d).rest
-      ∙ (t1.rounded.members d within).announcement ∙ ap (λ (v : Datacentre). v.announcement) (t0.swapped.beside d).rest
+      (t2.rounded.members d within).announcement ∙ ap (λ (v : Datacentre). v.announcement) (t1.swapped.beside.each d).rest
+      ∙ (t1.rounded.members d within).announcement ∙ ap (λ (v : Datacentre). v.announcement) (t0.swapped.beside.each d).rest
       ∙ (t0.rounded.members d within).announcement ∙ quiet d within
 
   -- where the second pass's rounds bring no record, its tables know what each log has

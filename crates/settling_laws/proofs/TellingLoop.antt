@@ -82,11 +82,11 @@ module _ (load : Workload) (z : Stages) (h : IsStanding load z) where
   -- what one pass keeps
   less_left : (y new : Stages) (g : IsStanding load y) (ts : List Step) → IsTelling load y g new ts → left_in new ≤ left_in y
   less_left y new g ts t =
-      let same : (d : ℕ) → left_at (datacentre_at new d) ≡ left_at (datacentre_at t.mid d) = λ d. ap left_at (t.swapped.beside d).rest in
-      omega (arith, t.rounded.no_more, sum_less left_at t.mid.datacentres new.datacentres nowhere_at t.swapped.datacentres (λ d inside. omega (arith, same d)))
+      let same : (d : ℕ) → left_at (datacentre_at new d) ≡ left_at (datacentre_at t.mid d) = λ d. ap left_at (t.swapped.beside.each d).rest in
+      omega (arith, t.rounded.no_more, sum_less left_at t.mid.datacentres new.datacentres nowhere_at t.swapped.beside.datacentres (λ d inside. omega (arith, same d)))
 
   still_quiet : (y new : Stages) (g : IsStanding load y) (ts : List Step) → IsTelling load y g new ts → AreQuiet load y → AreQuiet load new
-  still_quiet y new g ts t quiet d within = ap (λ (v : Datacentre). v.announcement) (t.swapped.beside d).rest ∙ (t.rounded.members d within).announcement ∙ quiet d within
+  still_quiet y new g ts t quiet d within = ap (λ (v : Datacentre). v.announcement) (t.swapped.beside.each d).rest ∙ (t.rounded.members d within).announcement ∙ quiet d within
 
   module _ (quiet : AreQuiet load z) (answered : is_answering z ≡ false) where
     quiet_at : (n : ℕ) → AreQuiet load (at n)
