@@ -25,7 +25,8 @@ use Rattle.stage_world.specs.Stages.{Datacentre, Stages, batcher_at}
 use Rattle.stage_world.specs.MoreTurns.{message_of, names_of, received, receive_turn}
 use Rattle.stage_world.specs.LinkTurns.{Moved, still, moved_at, with_link, put_in_link, send_turn, link_length}
 use Rattle.stage_world.specs.Whole.{datacentre_at, link_at, nowhere_at, with_turn}
-use Rattle.stage_world.specs.Schedules.{IsStep, step_of, after_steps}
+use Rattle.abstract_log.specs.Turns.{IsStep}
+use Rattle.stage_world.specs.Schedules.{step_of, after_steps}
 use Rattle.stage_world.specs.Settling.{sent_and_delivered}
 use Rattle.stage_world.proofs.ReceiveTurn.{names_come}
 use Rattle.settling_laws.specs.Rounds.{IsStanding}

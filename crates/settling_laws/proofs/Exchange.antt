@@ -20,7 +20,8 @@ use Rattle.stage_world.specs.Stages.{Datacentre, Stages}
 use Rattle.stage_world.specs.StandsFor.{StandsAt}
 use Rattle.stage_world.specs.MoreTurns.{message_of, names_of, stock_of}
 use Rattle.stage_world.specs.Whole.{datacentre_at}
-use Rattle.stage_world.specs.Schedules.{IsStep, after_steps}
+use Rattle.abstract_log.specs.Turns.{IsStep}
+use Rattle.stage_world.specs.Schedules.{after_steps}
 use Rattle.stage_world.specs.Settling.{Errand, is_due, sent_and_delivered, errand_turns, exchange}
 use Rattle.stage_world.proofs.ListLemmas.{Contains-cases, Contains-head, Contains-tail}
 use Rattle.settling_laws.specs.Rounds.{IsStanding}

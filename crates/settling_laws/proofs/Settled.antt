@@ -20,12 +20,14 @@ use Rattle.stage_world.specs.Stages.{Datacentre, Session, Stages}
 use Rattle.stage_world.specs.StandsFor.{StandsAt}
 use Rattle.stage_world.specs.MoreTurns.{same_counts}
 use Rattle.stage_world.specs.Whole.{StandsFor, datacentre_at, nowhere_at}
-use Rattle.stage_world.specs.Schedules.{IsStep, IsKept, step_of, after_steps, events_of}
+use Rattle.abstract_log.specs.Turns.{IsStep}
+use Rattle.stage_world.specs.Schedules.{IsKept, step_of, after_steps, events_of}
 use Rattle.stage_world.specs.Settling.{is_unanswered, has_unanswered, is_answering, is_agreed, is_unfinished, all_rounds, answering_rounds, telling_rounds, after_passes, turns_of_passes, IsLoop, IsSettling}
 use Rattle.stage_world.proofs.AllTurns.{step_kept}
 use Rattle.settling_laws.specs.Rounds.{IsStanding, EndsAnswering}
 use Rattle.settling_laws.specs.Ending.{AreQuiet, EndsTelling, EndsSettling, IsFinishedBy}
-use Rattle.log_laws.proofs.LawfulAfter.{lawful_after, workload_stays, kept_of}
+use Rattle.log_laws.proofs.LawfulAfter.{lawful_after, kept_of}
+use Rattle.log_laws.proofs.LimitedRuns.{workload_stays}
 use Rattle.settling_laws.proofs.Live.{steps_stand}
 use Rattle.settling_laws.proofs.Rounds.{after_steps-append}
 use Rattle.settling_laws.proofs.Loop.{answering_ends_at, answering_steps}

@@ -12,7 +12,7 @@ use Rattle.toid_filter.proofs.Tests.{any_gives}
 use Rattle.stage_world.specs.Stages.{Datacentre, Session, Stages}
 use Rattle.stage_world.specs.StandsFor.{StandsAt}
 use Rattle.stage_world.specs.Whole.{datacentre_at, nowhere_at}
-use Rattle.stage_world.specs.Schedules.{IsStep}
+use Rattle.abstract_log.specs.Turns.{IsStep}
 use Rattle.stage_world.specs.Settling.{is_unanswered, has_unanswered, is_answering, is_agreed, is_unfinished, telling_rounds, after_passes, turns_of_passes}
 use Rattle.settling_laws.specs.Rounds.{IsStanding, left_to, left_at, left_in}
 use Rattle.settling_laws.specs.Ending.{AreQuiet, EndsTelling, most_passes}

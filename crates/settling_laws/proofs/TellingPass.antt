@@ -20,7 +20,8 @@ use Rattle.stage_world.specs.StandsFor.{StandsAt, IsSafe, gone_times}
 use Rattle.stage_world.specs.MoreTurns.{stocked}
 use Rattle.stage_world.specs.Opening.{numbered}
 use Rattle.stage_world.specs.Whole.{datacentre_at, nowhere_at}
-use Rattle.stage_world.specs.Schedules.{IsStep, after_steps}
+use Rattle.abstract_log.specs.Turns.{IsStep}
+use Rattle.stage_world.specs.Schedules.{after_steps}
 use Rattle.stage_world.specs.Settling.{Errand, below, rounds, all_rounds, errands, exchange_turns, telling_rounds}
 use Rattle.stage_world.proofs.ListLemmas.{Contains-head}
 use Rattle.settling_laws.specs.Rounds.{HasSameMembers, IsRounded, IsStanding, left_at, left_in}

@@ -10,7 +10,8 @@ use Rattle.abstract_log.specs.Runs.{CanAllHappen, IsFinished, IsRun, after_all, 
 use Rattle.stage_world.specs.Opening.{opening}
 use Rattle.stage_world.specs.Stages.{Stages}
 use Rattle.stage_world.specs.Whole.{datacentre_at}
-use Rattle.stage_world.specs.Schedules.{IsStep, after_steps, events_of}
+use Rattle.abstract_log.specs.Turns.{IsStep}
+use Rattle.stage_world.specs.Schedules.{after_steps, events_of}
 use Rattle.stage_world.specs.Settling.{is_unfinished, telling_rounds, IsLoop, IsSettling}
 
 -- no announcement is on

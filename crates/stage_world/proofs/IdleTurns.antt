@@ -30,7 +30,8 @@ use Rattle.stage_world.specs.MoreTurns.{add_maintainer_turn, batcher_added, coll
 use Rattle.stage_world.specs.MarkTurns.{accept_next, activate_all, announce_idle, announce_turn, announced, ask_next, cancel_all, mark_turn}
 use Rattle.stage_world.specs.LinkTurns.{Moved, copy_turn, deliver_turn, has_lost, link_length, lose_turn, moved_at, put_in_link, send_turn, still, with_link}
 use Rattle.stage_world.specs.Whole.{StandsFor, datacentre_at, link_at, nowhere_at}
-use Rattle.stage_world.specs.Schedules.{AreTwo, IsStep, step_of, turn_of}
+use Rattle.abstract_log.specs.Turns.{AreTwo, IsStep}
+use Rattle.stage_world.specs.Schedules.{step_of, turn_of}
 use Rattle.stage_world.specs.Idle.{IsIdleTurn, apart_from_epochs}
 use Rattle.stage_world.proofs.IdleClients.{IsSilent, client_silent}
 
