@@ -2,6 +2,7 @@
 ghost use Rattle.std.specs.Prelude.{◌≡◌, ◌≢◌, ℕ, ◌+◌, ◌<◌, ◌≤◌, ◌^◌, nat_le, true, false, length};
 ghost use Rattle.std.specs.List.Sorted.{IsPartitionedBy, IsPartitionPoint};
 ghost use Rattle.flstore_rounds.specs.Epochs.{IsEpochList, IsNextOwn, first_epoch, last_from, owner, owner_in};
+ghost use Rattle.cz_base.specs.declared.limits.TheConstants.{MEMBERS, NUMBERS_END, ROUND};
 
 use crate::Epoch;
 use cz_base::Lid;
@@ -28,8 +29,8 @@ fn begun(epochs: &[Epoch], p: Lid) -> usize
 
 // How many positions come from `from` on before the next one of member m, were there no later epoch.
 pub fn wait(round: u32, epoch: Epoch, m: u32, from: Lid) -> u64
-    requires round { (1 ≤ round) × (round ≤ 1024) }
-    requires members { (m < epoch.members) × (epoch.members ≤ 16) }
+    requires round { (1 ≤ round) × (round ≤ ROUND) }
+    requires members { (m < epoch.members) × (epoch.members ≤ MEMBERS) }
     requires from { epoch.start ≤ from }
     ensures own { owner_in round epoch (from + result) ≡ m }
     ensures least { (k : ℕ) → k < result → owner_in round epoch (from + k) ≢ m }
@@ -46,7 +47,7 @@ pub fn wait(round: u32, epoch: Epoch, m: u32, from: Lid) -> u64
 pub fn next_own_by(round: u32, epochs: &[Epoch], m: u32, p: Lid) -> Lid
     requires rounds { IsEpochList (record { round = round; list = epochs.now }) }
     requires first { 1 ≤ p }
-    requires lid { p ≤ 2 ^ 48 }
+    requires lid { p ≤ NUMBERS_END }
     requires member { m < (last_from first_epoch epochs.now).members }
     ensures least { IsNextOwn (record { round = round; list = epochs.now }) m p result }
     ensures within { result < 2 ^ 49 }

@@ -2,6 +2,7 @@ ghost use Rattle.std.specs.Prelude.{◌≡◌, ◌<◌, ◌≤◌, ◌+◌, ◌^
 ghost use Rattle.abstract_log.specs.Fits.{FitsCommand};
 ghost use Rattle.abstract_log.specs.Worlds.{first_standing};
 ghost use Rattle.hyksos.specs.Sessions.{AreCommands, acked, is_unanswered, session_at, writes};
+ghost use Rattle.cz_base.specs.declared.limits.TheConstants.{DATACENTRES};
 
 use crate::commands::is_write;
 use crate::past::raise_place;
@@ -34,7 +35,7 @@ impl Model for Session {
 impl Session {
     /// A session that has begun nothing, at one of so many datacentres.
     pub fn new(alloc: Global, number: u32, dcs: u32, commands: Seq<Command>) -> Self
-        requires dcs { (1 ≤ dcs) × (dcs ≤ 8) }
+        requires dcs { (1 ≤ dcs) × (dcs ≤ DATACENTRES) }
         requires commands { AreCommands commands }
         ensures { result ≡ session_at number commands (first_standing dcs) }
     {

@@ -7,6 +7,7 @@ ghost use Rattle.flstore_rounds.specs.Heads.{IsHead, IsTrueMark, IsTrueOf, head,
 ghost use Rattle.tag_indexer.specs.Rows.{home, tagged_places};
 ghost use Rattle.tag_indexer.specs.Indexers.{AreBegun, AreOwnRows, IndexerState, empty, newest_found, posted};
 ghost use Rattle.tag_indexer.specs.Indexed.{IsIndexed, IsRowOf, found_in};
+ghost use Rattle.cz_base.specs.declared.limits.TheConstants.{MEMBERS};
 
 use crate::Post;
 use crate::rows::{last_tagged, list_rows, newest_put, put_rows};
@@ -16,6 +17,7 @@ use cz_base::{Lid, Name, NoMemory, Seq};
 use flstore_rounds::{Epochs, head_of};
 use std::alloc::Global;
 use std::marker::Model;
+use cz_base::limits::MEMBERS;
 
 /// The records with a tag at home here, as far as the maintainers have posted them. Contracts see it as a record
 /// of its number, the number of indexers, the pair of epochs and marks, and its rows by rising position.
@@ -24,7 +26,7 @@ pub struct Indexer {
     number: u32,
     indexers: u32,
     epochs: Epochs,
-    marks: [Lid; 16],
+    marks: [Lid; MEMBERS],
     rows: Vec<Post>,
     /// Where the rows are found by a key, and by a tag.
     puts: TagIndex,
@@ -56,7 +58,7 @@ impl Indexer {
             number,
             indexers,
             epochs,
-            marks: [1; 16],
+            marks: [1; MEMBERS],
             rows: Vec::new(alloc),
             puts: TagIndex::new(alloc),
             tagged: TagIndex::new(alloc),
@@ -72,7 +74,7 @@ impl Indexer {
         upto: Lid,
         rows: Seq<Post>,
     ) -> Result<(), NoMemory>
-        requires member { m < 16 }
+        requires member { m < MEMBERS }
         requires prefix { IsPrefix self.old.pair.epochs epochs.now ⊎ IsPrefix epochs.now self.old.pair.epochs }
         requires begun { AreBegun self.old.pair epochs.now }
         requires rows { AreOwnRows (longer self.old.pair.epochs epochs.now) m (mark_at self.old.pair m) upto rows }
@@ -102,7 +104,7 @@ impl Indexer {
 
     /// Up to where maintainer m has posted: below this position.
     pub fn mark(&self, m: u32) -> Lid
-        requires { m < 16 }
+        requires { m < MEMBERS }
         ensures value { result ≡ mark_at self.now.pair m }
         ensures some { 1 ≤ result }
     {
