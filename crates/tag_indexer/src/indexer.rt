@@ -1,3 +1,5 @@
+//! Indexers: what is posted to each, and what it finds.
+
 ghost use Rattle.std.specs.Prelude.{◌≡◌, ℕ, ◌<◌, ◌≤◌, ◌⊎◌, ◌↔◌, List, take, length, All, Bool, IsTrue, IfOk, IsErrOf, OnOk, OnErr};
 ghost use Rattle.causal_deps.specs.declared.record.Record.{Record};
 ghost use Rattle.causal_deps.specs.declared.answers.Newest.{Newest as NewestValue};
@@ -66,7 +68,8 @@ impl Indexer {
     }
 
     /// Takes the longer epoch list, and from maintainer m the rows of its own positions from the mark of m up to
-    /// below `upto`, which becomes the mark of m unless it is lower. Rows with no tag at home here are dropped.
+    /// below `upto`, which becomes the mark of m unless it is lower. Rows with no tag at home here are dropped. After `NoMemory` the
+    /// indexer is as before.
     pub fn post(
         &mut self,
         epochs: &Epochs,
