@@ -11,7 +11,7 @@ use causal_deps::Draft;
 use cz_base::NoMemory;
 
 impl Session {
-    // The command that is open, or the next one.
+    /// The command that is open, or the next one.
     pub(crate) fn next(&self) -> Option<&Command>
         ensures value { option_copied result ≡ next_command self.now }
         ensures fits { IfSome result (λ command. FitsCommand command.now) }
@@ -43,7 +43,7 @@ impl Session {
         Ok(draft)
     }
 
-    // The draft of that command, if it is a write.
+    /// The draft of that command, if it is a write.
     pub(crate) fn draft(&self) -> Result<Option<Draft>, NoMemory>
         ensures { IfOk result (λ draft. draft ≡ option_and_then (draft_of self.now.number (next_index self.now) self.now.standing.past) (next_command self.now)) }
     {

@@ -15,11 +15,11 @@ use crate::Post;
 use crate::rows::{last_tagged, list_rows, newest_put, put_rows};
 use crate::tag_index::TagIndex;
 use causal_deps::{LastFault, Newest, Place};
+use cz_base::limits::MEMBERS;
 use cz_base::{Lid, Name, NoMemory, Seq};
 use flstore_rounds::{Epochs, head_of};
 use std::alloc::Global;
 use std::marker::Model;
-use cz_base::limits::MEMBERS;
 
 /// The records with a tag at home here, as far as the maintainers have posted them. Contracts see it as a record
 /// of its number, the number of indexers, the pair of epochs and marks, and its rows by rising position.
