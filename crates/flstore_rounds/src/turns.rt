@@ -7,7 +7,7 @@ ghost use Rattle.cz_base.specs.declared.limits.TheConstants.{MEMBERS, NUMBERS_EN
 use crate::Epoch;
 use cz_base::Lid;
 
-// The owner of p: the last epoch that starts at or before p deals it.
+/// The owner of p: the last epoch that starts at or before p deals it.
 pub fn owner_by(round: u32, epochs: &[Epoch], p: Lid) -> u32
     requires rounds { IsEpochList (record { round = round; list = epochs.now }) }
     requires first { 1 ≤ p }
@@ -27,7 +27,7 @@ fn begun(epochs: &[Epoch], p: Lid) -> usize
     epochs.partition_point(|epoch| epoch.start <= p)
 }
 
-// How many positions come from `from` on before the next one of member m, were there no later epoch.
+/// How many positions come from `from` on before the next one of member m, were there no later epoch.
 pub fn wait(round: u32, epoch: Epoch, m: u32, from: Lid) -> u64
     requires round { (1 ≤ round) × (round ≤ ROUND) }
     requires members { (m < epoch.members) × (epoch.members ≤ MEMBERS) }
@@ -43,7 +43,7 @@ pub fn wait(round: u32, epoch: Epoch, m: u32, from: Lid) -> u64
     (round * turns).saturating_sub(passed % round)
 }
 
-// The least position of member m at or above p.
+/// The least position of member m at or above p.
 pub fn next_own_by(round: u32, epochs: &[Epoch], m: u32, p: Lid) -> Lid
     requires rounds { IsEpochList (record { round = round; list = epochs.now }) }
     requires first { 1 ≤ p }

@@ -8,11 +8,11 @@ ghost use Rattle.head_gossip.specs.Marks.{AreMarks};
 ghost use Rattle.head_gossip.specs.Notes.{pair_of};
 ghost use Rattle.cz_base.specs.declared.limits.TheConstants.{MEMBERS};
 
+use cz_base::limits::MEMBERS;
 use cz_base::{Lid, NoMemory};
 use flstore_rounds::{Epochs, head_of};
 use std::alloc::Global;
 use std::marker::Model;
-use cz_base::limits::MEMBERS;
 
 /// What one maintainer tells another.
 #[derive(Debug, Drop)]

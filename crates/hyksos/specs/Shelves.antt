@@ -20,7 +20,7 @@ pub record ShelfState : Type 0 where
   pub covered : List ℕ
   pub pins : List (Option ℕ)
 
--- 1 to 16 indexers, and 64 sessions
+-- there is an indexer at least, and no more than there may be, and a place for the pin of each session that there may be
 pub record IsShelf (m : ShelfState) : Type 0 where
   pub some : 1 ≤ length m.covered
   pub few : length m.covered ≤ MEMBERS

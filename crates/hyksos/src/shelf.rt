@@ -1,3 +1,5 @@
+//! Shelves: what a session reads through.
+
 ghost use Rattle.std.specs.Prelude.{◌≡◌, ◌≢◌, ◌↔◌, ◌<◌, ◌≤◌, ℕ, List, Some, None, IfOk, IsErrOf, IsSome, Contains, length};
 ghost use Rattle.causal_deps.specs.declared.answers.Newest.TheVariants.{Found};
 ghost use Rattle.causal_deps.specs.declared.record.Record.{Record as RecordValue};
@@ -56,7 +58,7 @@ pub trait Shelf {
         ensures held { held self.new ≡ with_pin session None (held self.old) }
         ensures log { (log : List RecordValue) → shows self.old log → shows self.new log };
 
-    /// There are 1 to 16 indexers and 64 sessions.
+    /// There is an indexer at least, and no more indexers or sessions than there may be.
     ghost sized: { (shelf : Self) → IsShelf (held shelf) };
 
     /// The head is no further than the log.

@@ -9,9 +9,8 @@ ghost use Rattle.hyksos.specs.Turns.{IsTaken, IsWritten, look, look_turn, opened
 ghost use Rattle.cz_base.specs.declared.limits.TheConstants.{SESSIONS};
 
 use crate::looking::{Seen, list, look_up, read};
-use crate::past::raise_answer;
 use crate::{Next, Session, Shelf, Turned};
-use abstract_log::{Answer, Command, Found};
+use abstract_log::{Answer, Command, Found, raise_answer};
 use causal_deps::Pin;
 use cz_base::{Lid, NoMemory};
 

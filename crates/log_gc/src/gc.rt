@@ -8,8 +8,8 @@ ghost use Rattle.cz_base.specs.declared.limits.TheConstants.{SESSIONS};
 use awareness_table::Aware;
 use causal_deps::{Kind, Pin, Record};
 use cz_base::Lid;
-use std::marker::Model;
 use cz_base::limits::SESSIONS;
+use std::marker::Model;
 
 /// The collection floor of a log, and what each session reads it at. Contracts see the floor and, for each
 /// session that there may be, its pin or none.

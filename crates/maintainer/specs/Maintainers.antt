@@ -1,5 +1,5 @@
 -- Maintainers: each keeps the values at the positions that it owns.
-use Rattle.std.specs.Prelude.{◌≡◌, ℕ, zero, suc, ◌+◌, ◌-◌, ◌^◌, ◌<◌, ◌≤◌, ◌==◌, ◌&&◌, max, not, Bool, if◌then◌else◌, nat_lt, nat_le, List, [], ◌∷◌, length, filter, find, Option, Some, None, slice_get, slice_index_or, count_by, fold, All, refl}
+use Rattle.std.specs.Prelude.{◌≡◌, ℕ, zero, suc, ◌+◌, ◌-◌, ◌<◌, ◌≤◌, ◌==◌, ◌&&◌, max, not, Bool, if◌then◌else◌, nat_lt, nat_le, List, [], ◌∷◌, length, filter, find, Option, Some, None, slice_get, slice_index_or, count_by, fold, All, refl}
 use Rattle.std.specs.List.{list_any}
 use Rattle.std.specs.Coded.{Coded, code_by, coded×, coded_ℕ, coded_list}
 use Rattle.flstore_rounds.specs.declared.epochs.Epoch.{Epoch}

@@ -1,5 +1,5 @@
 -- The fields of a record and a message as parts: which values each may have.
-use Rattle.std.specs.Prelude.{ℕ, ◌-◌, ◌<◌, ◌^◌, ◌==◌, if◌then◌else◌, Option, Some, None, List, All}
+use Rattle.std.specs.Prelude.{ℕ, ◌-◌, ◌<◌, ◌==◌, if◌then◌else◌, Option, Some, None, List, All}
 use Rattle.byteorder.specs.Endian.{big_bytes}
 use Rattle.cz_base.specs.declared.limits.TheConstants.{COMMANDS, NUMBERS_END, SESSIONS}
 use Rattle.cz_base.specs.Text.{IsName}

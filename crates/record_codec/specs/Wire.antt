@@ -1,5 +1,5 @@
 -- The wire form: which bytes spell which record or message. Numbers stand with the highest byte first.
-use Rattle.std.specs.Prelude.{◌≡◌, ℕ, ◌-◌, ◌<◌, ◌≤◌, ◌^◌, List, ◌++◌, length, slice_index, All}
+use Rattle.std.specs.Prelude.{◌≡◌, ℕ, ◌-◌, ◌<◌, ◌≤◌, List, ◌++◌, length, slice_index, All}
 use Rattle.std.specs.List.{flat_map}
 use Rattle.byteorder.specs.Endian.{big_bytes}
 use Rattle.cz_base.specs.declared.limits.TheConstants.{COMMANDS, MESSAGE_RECORDS, NUMBERS_END, SESSIONS, TAGS}

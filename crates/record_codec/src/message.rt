@@ -16,9 +16,9 @@ use crate::reader::Reader;
 use crate::record::{read_record, write_record};
 use crate::writer::Writer;
 use causal_deps::{Record, Table};
+use cz_base::limits::MESSAGE_RECORDS;
 use cz_base::{DcId, NoMemory, Seq};
 use std::alloc::Global;
-use cz_base::limits::MESSAGE_RECORDS;
 
 // The first byte of a message.
 const FORM: u32 = 1;

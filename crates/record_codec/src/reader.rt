@@ -18,7 +18,7 @@ use cz_base::{Body, BodyFault, DcId, Name, NameFault, Seq};
 use std::alloc::Global;
 use std::marker::Model;
 
-// Bytes that are read from the front, and how many have been. What is missed is told by its place.
+/// Bytes that are read from the front, and how many have been. What is missed is told by its place.
 #[derive(Drop)]
 pub struct Reader<'a> {
     alloc: Global,
@@ -26,10 +26,12 @@ pub struct Reader<'a> {
     at: usize,
 }
 
-// An entry of the dependencies that is known before it is read.
+/// An entry of the dependencies that is known before it is read.
 #[derive(Clone, Copy)]
 pub struct Own {
+    /// The datacentre of the entry.
     pub host: u32,
+    /// What the entry has to be.
     pub count: u64,
 }
 
@@ -45,6 +47,7 @@ impl<'a> Model for Reader<'a> {
 }
 
 impl<'a> Reader<'a> {
+    /// A reader of these bytes, none of which is read yet.
     pub fn new(alloc: Global, bytes: &'a [u8]) -> Self
         ensures { result ≡ record { left = bytes.now; at = 0 } }
     {
@@ -55,11 +58,12 @@ impl<'a> Reader<'a> {
         }
     }
 
+    /// Where the memory of what is read comes from.
     pub fn alloc(&self) -> Global {
         self.alloc
     }
 
-    // Reads a number of so many bytes that is in the range.
+    /// Reads a number of so many bytes that is in the range.
     pub fn number(&mut self, width: usize, low: u64, high: u64) -> Result<u64, DecodeFault>
         requires width { 1 ≤ width }
         requires wide { width ≤ 8 }
@@ -78,7 +82,7 @@ impl<'a> Reader<'a> {
         }
     }
 
-    // Reads a number of so many bytes that is in the range.
+    /// Reads a number of so many bytes that is in the range.
     pub fn small(&mut self, width: usize, low: u32, high: u32) -> Result<u32, DecodeFault>
         requires width { 1 ≤ width }
         requires wide { width ≤ 8 }
@@ -94,7 +98,7 @@ impl<'a> Reader<'a> {
         }
     }
 
-    // Reads the number of a datacentre of the range.
+    /// Reads the number of a datacentre of the range.
     pub fn host(&mut self, low: u32, high: u32) -> Result<DcId, DecodeFault>
         requires order { low ≤ high }
         requires fits { high < DATACENTRES }
@@ -109,7 +113,7 @@ impl<'a> Reader<'a> {
         }
     }
 
-    // Reads a name behind its length.
+    /// Reads a name behind its length.
     pub fn name(&mut self) -> Result<Name, DecodeFault>
         ensures ok { IfOk result (λ name. IsName name) }
         ensures took { IfOk result (λ name. Took self.old self.new (name_bytes name)) }
@@ -142,7 +146,7 @@ impl<'a> Reader<'a> {
         }
     }
 
-    // Reads a body behind its length.
+    /// Reads a body behind its length.
     pub fn body(&mut self) -> Result<Body, DecodeFault>
         ensures ok { IfOk result (λ body. IsBody body) }
         ensures took { IfOk result (λ body. Took self.old self.new (body_bytes body)) }
@@ -173,7 +177,7 @@ impl<'a> Reader<'a> {
         }
     }
 
-    // Reads names behind their number, which is in the range.
+    /// Reads names behind their number, which is in the range.
     pub fn names(&mut self, low: u32, high: u32) -> Result<Seq<Name>, DecodeFault>
         requires order { low ≤ high }
         requires fits { high < 256 }
@@ -198,7 +202,7 @@ impl<'a> Reader<'a> {
         Ok(names)
     }
 
-    // Reads an entry for each datacentre, where one may be known.
+    /// Reads an entry for each datacentre, where one may be known.
     pub fn counts(&mut self, dcs: u32, own: Option<Own>) -> Result<Counts, DecodeFault>
         requires dcs { (1 ≤ dcs) × (dcs ≤ DATACENTRES) }
         requires own { FitsOwn own }
@@ -215,7 +219,7 @@ impl<'a> Reader<'a> {
         Ok(counts)
     }
 
-    // Reads a row for each datacentre.
+    /// Reads a row for each datacentre.
     pub fn table(&mut self, dcs: u32) -> Result<Table, DecodeFault>
         requires { (1 ≤ dcs) × (dcs ≤ DATACENTRES) }
         ensures ok { IfOk result (λ table. AreRows dcs table) }
@@ -230,7 +234,7 @@ impl<'a> Reader<'a> {
         Ok(table)
     }
 
-    // Whether no byte is left.
+    /// Whether no byte is left.
     pub fn end(&self) -> Result<(), DecodeFault>
         ensures ok { OnOk result (self.now.left ≡ []) }
         ensures fault { IfErr result (λ fault. (fault ≡ DecodeFault.Malformed self.now.at) × (self.now.left ≢ [])) }
@@ -271,7 +275,7 @@ impl<'a> Reader<'a> {
     }
 }
 
-// The datacentre of a number.
+/// The datacentre of a number.
 pub fn datacentre(number: u32) -> DcId
     requires { number < DATACENTRES }
     ensures { result ≡ number }

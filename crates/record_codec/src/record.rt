@@ -18,7 +18,7 @@ use cz_base::limits::{COMMANDS, NUMBERS_END, SESSIONS, TAGS};
 use cz_base::{DcId, NoMemory, Toid};
 use std::alloc::Global;
 
-// What says whose record it is, and which.
+/// What says whose record it is, and which.
 #[derive(Clone, Copy)]
 pub struct Head {
     host: DcId,
@@ -70,7 +70,7 @@ fn whole_record(alloc: Global, bytes: &[u8], dcs: u32) -> Result<Record, DecodeF
     Ok(rec)
 }
 
-// Writes a record, whose names and body are what their types keep.
+/// Writes a record, whose names and body are what their types keep.
 pub fn write_record(writer: &mut Writer, rec: &Record) -> Result<(), NoMemory>
     requires { FitsRecord (length rec.now.dep) rec.now }
     ensures ok { OnOk result (writer.new ≡ writer.old ++ record_bytes (length rec.now.dep) rec.now) }
@@ -104,7 +104,7 @@ fn kind_byte(kind: Kind) -> u64
     }
 }
 
-// Reads a record for so many datacentres whose host is in the range.
+/// Reads a record for so many datacentres whose host is in the range.
 pub fn read_record(
     reader: &mut Reader<'_>,
     dcs: u32,

@@ -1,3 +1,5 @@
+//! Indexers: what is posted to each, and what it finds.
+
 ghost use Rattle.std.specs.Prelude.{◌≡◌, ℕ, ◌<◌, ◌≤◌, ◌⊎◌, ◌↔◌, List, take, length, All, Bool, IsTrue, IfOk, IsErrOf, OnOk, OnErr};
 ghost use Rattle.causal_deps.specs.declared.record.Record.{Record};
 ghost use Rattle.causal_deps.specs.declared.answers.Newest.{Newest as NewestValue};
@@ -13,11 +15,11 @@ use crate::Post;
 use crate::rows::{last_tagged, list_rows, newest_put, put_rows};
 use crate::tag_index::TagIndex;
 use causal_deps::{LastFault, Newest, Place};
+use cz_base::limits::MEMBERS;
 use cz_base::{Lid, Name, NoMemory, Seq};
 use flstore_rounds::{Epochs, head_of};
 use std::alloc::Global;
 use std::marker::Model;
-use cz_base::limits::MEMBERS;
 
 /// The records with a tag at home here, as far as the maintainers have posted them. Contracts see it as a record
 /// of its number, the number of indexers, the pair of epochs and marks, and its rows by rising position.
@@ -66,7 +68,8 @@ impl Indexer {
     }
 
     /// Takes the longer epoch list, and from maintainer m the rows of its own positions from the mark of m up to
-    /// below `upto`, which becomes the mark of m unless it is lower. Rows with no tag at home here are dropped.
+    /// below `upto`, which becomes the mark of m unless it is lower. Rows with no tag at home here are dropped. After `NoMemory` the
+    /// indexer is as before.
     pub fn post(
         &mut self,
         epochs: &Epochs,

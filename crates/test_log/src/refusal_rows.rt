@@ -287,9 +287,9 @@ fn what_may_not_happen_is_refused(rt: HostRuntime) -> Result<(), Fail> {
     for row in &BEFORE {
         assert_eq!(rt; log.step(&row.event(alloc)?), Ok(()));
     }
-    for row in &REFUSED {
-        let fault = StepFault::Refused { place: row.place };
-        assert_eq!(rt; log.step(&row.event.event(alloc)?), Err(fault));
+    for case in &REFUSED {
+        let fault = StepFault::Refused { place: case.place };
+        assert_eq!(rt; log.step(&case.event.event(alloc)?), Err(fault));
     }
     Ok(())
 }

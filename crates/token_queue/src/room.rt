@@ -6,11 +6,11 @@ ghost use Rattle.token_queue.specs.Room.{HaveRoom, entries_of, owned_among};
 ghost use Rattle.cz_base.specs.declared.limits.TheConstants.{MEMBERS, NUMBERS_END};
 
 use crate::Entry;
+use cz_base::limits::{MEMBERS, NUMBERS_END};
 use cz_base::{Lid, NoMemory, Seq};
 use flstore_rounds::Epochs;
 use std::alloc::Global;
 use std::marker::Model;
-use cz_base::limits::{MEMBERS, NUMBERS_END};
 
 /// The entries for one maintainer. Contracts see beside them how many more it takes without memory.
 #[derive(Debug, Drop)]
