@@ -2,7 +2,7 @@
 use Rattle.std.proofs.Common.{◌≡◌, ℕ, ◌+◌, Bool, ltb, eqb, ◌&&◌, cond, List, [], ◌∷◌, ◌++◌, length, map, refl, ap, ap₂, sym, subst, ◌∙◌, inl, inr, arith}
 use Rattle.std.proofs.lemmas.List.{length-set, length-map, get_or-map, get_or_past}
 use Rattle.std.proofs.lemmas.Bool.{cases_lt, cond_both}
-use Rattle.causal_deps.specs.declared.record.Place.{Place}
+use Rattle.causal_deps.specs.declared.record.Place.{Place as RecordPlace}
 use Rattle.causal_deps.specs.declared.record.Record.{Record}
 use Rattle.causal_deps.specs.declared.record.Item.{Item}
 use Rattle.causal_deps.specs.declared.record.Item.TheVariants.{Local, External}
@@ -57,7 +57,7 @@ there_goes : (b : Bool) (z : Datacentre) (t : Turned) → GoesTo z t.after → G
 there_goes b z t goes = cond_both b t (quiet Absent z) (λ u. GoesTo z u.after) (λ _. goes) (λ _. goes_nowhere z)
 
 -- a session whose write is stamped went on
-acked_goes : (place : Place) (x : Session) → GoesOn x (acked place x)
+acked_goes : (place : RecordPlace) (x : Session) → GoesOn x (acked place x)
 acked_goes place x = record {
   less = omega (arith, drop_less work_of x.commands x.standing.answered);
   writes = λ h. inr (omega (arith, drop_next work_of x.commands x.standing.answered h.command h.is, h.fresh));

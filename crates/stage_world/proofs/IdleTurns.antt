@@ -1,7 +1,7 @@
 -- A turn after which links and datacentres are as they were, epoch lists apart, has no events. By kinds of turns: where one has events,
 -- it brings a session on, or adds to the last position, to what is learnt or to the names of what is gone, or takes a packet out of
 -- its link. The theorem is `idle_is_silent`.
-use Rattle.std.proofs.Common.{◌≡◌, ℕ, zero, suc, ◌+◌, ◌-◌, ◌<◌, Bool, true, false, cond, ltb, leb, eqb, ◌&&◌, List, [], ◌∷◌, ◌++◌, length, map, get_or, set, refl, ap, sym, ◌∙◌, arith, Option, Some, None}
+use Rattle.std.proofs.Common.{◌≡◌, ℕ, zero, suc, ◌+◌, ◌-◌, ◌<◌, Bool, true, false, cond, ltb, leb, eqb, ◌&&◌, List, [], ◌∷◌, length, map, get_or, set, refl, ap, sym, ◌∙◌, arith, Option, Some, None}
 use Rattle.std.specs.Option.{option_map_or}
 use Rattle.std.proofs.Math.ListN.{get_or-map}
 use Rattle.std.proofs.lemmas.Bool.{cond_both, and_from, eq-eqb, true≢false}
@@ -11,7 +11,6 @@ use Rattle.std.proofs.lemmas.Option.{slice_get_within}
 use Rattle.causal_deps.specs.declared.record.Record.{Record}
 use Rattle.causal_deps.specs.declared.record.Item.{Item}
 use Rattle.causal_deps.specs.Counts.{row_of}
-use Rattle.abstract_log.specs.declared.command.Workload.{Workload}
 use Rattle.abstract_log.specs.declared.event.Event.{Event}
 use Rattle.abstract_log.specs.declared.event.Event.TheVariants.{Learn as LearnEvent, Collect as CollectEvent}
 use Rattle.abstract_log.specs.declared.script.Outcome.TheVariants.{Absent, NoToken, Busy, LateStart, Announced, AcceptedBy, LateAt, Active, Idle, Sent, Lost, Copied, Member, EpochAdded, LateMark}
@@ -128,6 +127,9 @@ own_silent z step d within same =
     (ap apart_from_epochs (sym (get_or-set_same zs d new nowhere_at within)) ∙ sym (get_or-map apart_from_epochs (set zs d new) d nowhere_at)
     ∙ ap (λ ys. get_or ys d (apart_from_epochs nowhere_at)) same ∙ get_or-map apart_from_epochs zs d nowhere_at)
 
+there_is : (w : World) (z : Stages) (d : ℕ) → StandsFor w z → d < w.workload.dcs → d < length z.datacentres
+there_is w z d h within = omega (arith, h.size, within)
+
 -- deliver: the link has a packet less
 taken_out : (ms : List Message) (k : ℕ) (m : Message) → message_at ms k ≡ Some m → length (without ms k) + 1 ≡ length ms
 taken_out ms zero m is = absurd (cc)
@@ -136,14 +138,13 @@ taken_out ms (suc k) m is = length-remove ms k (slice_get_within ms k m is)
 delivered_silent : (w : World) (z : Stages) (d e k r : ℕ) → StandsFor w z → AreTwo w.workload.dcs d e → (deliver_turn z d e k r).after.links ≡ z.links → (deliver_turn z d e k r).events ≡ []
 delivered_silent w z d e k r h two = at (message_at (link_at z d e) k) refl
   where
-    left : List Message
-    left = without (link_at z d e) k
-
-    at : (o : Option Message) → message_at (link_at z d e) k ≡ o → (option_map_or (λ m. moved_at (with_link z d e left) e (receive_turn e (datacentre_at z e) r m)) o (still Absent z)).after.links ≡ z.links
-        → (option_map_or (λ m. moved_at (with_link z d e left) e (receive_turn e (datacentre_at z e) r m)) o (still Absent z)).events ≡ []
+    at : (o : Option Message) → message_at (link_at z d e) k ≡ o
+        → (option_map_or (λ m. moved_at (with_link z d e (without (link_at z d e) k)) e (receive_turn e (datacentre_at z e) r m)) o (still Absent z)).after.links ≡ z.links
+        → (option_map_or (λ m. moved_at (with_link z d e (without (link_at z d e) k)) e (receive_turn e (datacentre_at z e) r m)) o (still Absent z)).events ≡ []
     at None is same = refl
     at (Some m) is same =
         let row : List (List Message) = get_or z.links d [] in
+        let left : List Message = without (link_at z d e) k in
         let now : link_at (with_link z d e left) d e ≡ left =
         ap (λ ls. get_or ls e []) (get_or-set_same z.links d (set row e left) [] (omega (arith, h.linked.0, two.first))) ∙ get_or-set_same row e left [] (omega (arith, h.linked.1 d two.first, two.second)) in
         let kept : left ≡ link_at z d e = sym now ∙ ap (λ ls. get_or (get_or ls d []) e []) same in
@@ -165,24 +166,24 @@ lost_silent z d e k = at (message_at (link_at z d e) k)
 
 -- An idle turn has no events.
 pub idle_is_silent : (w : World) (z : Stages) (step : Step) → StandsFor w z → IsStep w.workload step → IsIdleTurn w.workload z step → (step_of w.workload z step).events ≡ []
-idle_is_silent w z (Client s) h good idle = own_silent z (Client s) (plan_of w.workload s).home (omega (arith, h.size, h.shape.workload.homes s good)) idle.datacentres
-idle_is_silent w z (Flush d b) h good idle = own_silent z (Flush d b) d (omega (arith, h.size, good)) idle.datacentres
-idle_is_silent w z (Pass d f q) h good idle = own_silent z (Pass d f q) d (omega (arith, h.size, good)) idle.datacentres
-idle_is_silent w z (Stamp d q) h good idle = own_silent z (Stamp d q) d (omega (arith, h.size, good)) idle.datacentres
+idle_is_silent w z (Client s) h good idle = own_silent z (Client s) (plan_of w.workload s).home (there_is w z (plan_of w.workload s).home h (h.shape.workload.homes s good)) idle.datacentres
+idle_is_silent w z (Flush d b) h good idle = own_silent z (Flush d b) d (there_is w z d h good) idle.datacentres
+idle_is_silent w z (Pass d f q) h good idle = own_silent z (Pass d f q) d (there_is w z d h good) idle.datacentres
+idle_is_silent w z (Stamp d q) h good idle = own_silent z (Stamp d q) d (there_is w z d h good) idle.datacentres
 idle_is_silent w z (Token d) h good idle = refl
-idle_is_silent w z (Place d q m) h good idle = own_silent z (Place d q m) d (omega (arith, h.size, good)) idle.datacentres
-idle_is_silent w z (Gossip d m k) h good idle = own_silent z (Gossip d m k) d (omega (arith, h.size, good)) idle.datacentres
-idle_is_silent w z (Post d m i) h good idle = own_silent z (Post d m i) d (omega (arith, h.size, good)) idle.datacentres
-idle_is_silent w z (Learn d) h good idle = own_silent z (Learn d) d (omega (arith, h.size, good)) idle.datacentres
+idle_is_silent w z (Place d q m) h good idle = own_silent z (Place d q m) d (there_is w z d h good) idle.datacentres
+idle_is_silent w z (Gossip d m k) h good idle = own_silent z (Gossip d m k) d (there_is w z d h good) idle.datacentres
+idle_is_silent w z (Post d m i) h good idle = own_silent z (Post d m i) d (there_is w z d h good) idle.datacentres
+idle_is_silent w z (Learn d) h good idle = own_silent z (Learn d) d (there_is w z d h good) idle.datacentres
 idle_is_silent w z (Floor d p) h good idle = refl
-idle_is_silent w z (Collect d m) h good idle = own_silent z (Collect d m) d (omega (arith, h.size, good)) idle.datacentres
+idle_is_silent w z (Collect d m) h good idle = own_silent z (Collect d m) d (there_is w z d h good) idle.datacentres
 idle_is_silent w z (Announce d g t) h good idle = announce_silent (datacentre_at z d) g t
 idle_is_silent w z (Mark d) h good idle = mark_silent (datacentre_at z d)
-idle_is_silent w z (AddMaintainer d p) h good idle = own_silent z (AddMaintainer d p) d (omega (arith, h.size, good.0)) idle.datacentres
-idle_is_silent w z (AddBatcher d) h good idle = own_silent z (AddBatcher d) d (omega (arith, h.size, good)) idle.datacentres
-idle_is_silent w z (AddQueue d) h good idle = own_silent z (AddQueue d) d (omega (arith, h.size, good)) idle.datacentres
-idle_is_silent w z (AddSender d) h good idle = own_silent z (AddSender d) d (omega (arith, h.size, good)) idle.datacentres
-idle_is_silent w z (AddReceiver d) h good idle = own_silent z (AddReceiver d) d (omega (arith, h.size, good)) idle.datacentres
+idle_is_silent w z (AddMaintainer d p) h good idle = own_silent z (AddMaintainer d p) d (there_is w z d h good.0) idle.datacentres
+idle_is_silent w z (AddBatcher d) h good idle = own_silent z (AddBatcher d) d (there_is w z d h good) idle.datacentres
+idle_is_silent w z (AddQueue d) h good idle = own_silent z (AddQueue d) d (there_is w z d h good) idle.datacentres
+idle_is_silent w z (AddSender d) h good idle = own_silent z (AddSender d) d (there_is w z d h good) idle.datacentres
+idle_is_silent w z (AddReceiver d) h good idle = own_silent z (AddReceiver d) d (there_is w z d h good) idle.datacentres
 idle_is_silent w z (Send d k e) h good idle = cond_both (ltb k (datacentre_at z d).senders) (send_turn z d k e) (still Absent z) (λ (m : Moved). m.events ≡ []) (λ _. refl) (λ _. refl)
 idle_is_silent w z (Deliver d e k r) h good idle = cond_both (ltb r (datacentre_at z e).receivers) (deliver_turn z d e k r) (still Absent z) (λ (m : Moved). m.after.links ≡ z.links → m.events ≡ [])
     (λ _. delivered_silent w z d e k r h good) (λ _ _. refl) idle.links

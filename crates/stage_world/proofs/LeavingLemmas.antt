@@ -1,5 +1,5 @@
 -- The rows that stages leave are those of the log that they stand for.
-use Rattle.std.proofs.Common.{◌≡◌, ℕ, zero, suc, ◌+◌, ◌-◌, ◌<◌, ◌≤◌, ◌⊎◌, Bool, true, false, cond, eqb, List, [], ◌∷◌, ◌++◌, length, map, get_or, set, refl, ap, sym, ◌∙◌, subst, inl, inr, arith, Some}
+use Rattle.std.proofs.Common.{◌≡◌, ℕ, zero, suc, ◌+◌, ◌-◌, ◌<◌, ◌≤◌, ◌⊎◌, true, false, cond, eqb, List, [], ◌∷◌, length, map, get_or, set, refl, ap, sym, ◌∙◌, subst, inl, inr, arith, Some}
 use Rattle.std.specs.List.{All, flat_map, fold, slice_get, sum_by}
 use Rattle.std.proofs.lemmas.List.{get_or-set_same, get_or-set_other, length-set, length-replicate, ext_get_or}
 use Rattle.std.proofs.lemmas.List.Elements.{All-nil, All-append, All-head, All-map, All-tail, Contains-get_or}
@@ -14,13 +14,13 @@ use Rattle.abstract_log.specs.declared.left.Row.TheVariants.{Kept, Gone}
 use Rattle.abstract_log.specs.declared.world.World.{World}
 use Rattle.abstract_log.specs.Left.{is_collected, row_at, rows_from, rows_of}
 use Rattle.abstract_log.specs.Worlds.{log_of, gone_of}
-use Rattle.maintainer.specs.Maintainers.{MaintainerState, IsEntryOf, times, times_in}
+use Rattle.maintainer.specs.Maintainers.{IsEntryOf, times, times_in}
 use Rattle.maintainer.specs.declared.slot.Slot.{Slot}
 use Rattle.maintainer.proofs.CountLemmas.{entry_counts}
 use Rattle.token_queue.specs.declared.entry.Entry.{Entry}
 use Rattle.token_queue.specs.Queues.{QueueState, times_among, waiting}
-use Rattle.stage_world.specs.Stages.{Datacentre, filled, slot_of, waiting_in}
-use Rattle.stage_world.specs.StandsFor.{StandsAt, IsNamed, gone_times, position_in}
+use Rattle.stage_world.specs.Stages.{Datacentre, slot_of, waiting_in}
+use Rattle.stage_world.specs.StandsFor.{StandsAt, IsNamed, position_in}
 use Rattle.stage_world.specs.Leaving.{blank_rows, rows_told, slots_in, slots_kept, slots_waiting, with_place, with_row, with_slot}
 use Rattle.stage_world.proofs.FilledLemmas.{times_in-flat_map, All-flat_map}
 

@@ -54,12 +54,12 @@ dealt_more t q e same settled h = record {
   known = h.known;
   outboxes = length-set q.outboxes (owner t e.lid) (get_or q.outboxes (owner t e.lid) [] ++ e ∷ []) ∙ h.outboxes;
   owned = λ m. elim (cases_eq m (owner t e.lid)) [
-    | inr other ↦ subst (All (λ x. (owner q.epochs x.lid ≡ m) × IsSettled t q.epochs x.lid)) (sym (get_or-set_other q.outboxes (owner t e.lid) m (get_or q.outboxes (owner t e.lid) [] ++ e ∷ []) [] other)) (h.membership.owned m)
+    | inr other ↦ subst (All (λ x. (owner q.epochs x.lid ≡ m) × IsSettled t q.epochs x.lid)) (sym (get_or-set_other q.outboxes (owner t e.lid) m (get_or q.outboxes (owner t e.lid) [] ++ e ∷ []) [] other)) (h.owned m)
     | inl is ↦ elim (cases_lt (owner t e.lid) (length q.outboxes)) [
-      | inr past ↦ subst (λ (os : List (List Entry)). All (λ x. (owner q.epochs x.lid ≡ m) × IsSettled t q.epochs x.lid) (get_or os m [])) (sym (set_past q.outboxes (owner t e.lid) (get_or q.outboxes (owner t e.lid) [] ++ e ∷ []) past)) (h.membership.owned m)
+      | inr past ↦ subst (λ (os : List (List Entry)). All (λ x. (owner q.epochs x.lid ≡ m) × IsSettled t q.epochs x.lid) (get_or os m [])) (sym (set_past q.outboxes (owner t e.lid) (get_or q.outboxes (owner t e.lid) [] ++ e ∷ []) past)) (h.owned m)
       | inl inside ↦ subst (All (λ x. (owner q.epochs x.lid ≡ m) × IsSettled t q.epochs x.lid)) (sym (get_or-set_at q.outboxes (owner t e.lid) m (get_or q.outboxes (owner t e.lid) [] ++ e ∷ []) [] is inside))
           (All-push (λ (x : Entry). (owner q.epochs x.lid ≡ m) × IsSettled t q.epochs x.lid) (get_or q.outboxes (owner t e.lid) []) e
-          (subst (λ k. All (λ x. (owner q.epochs x.lid ≡ m) × IsSettled t q.epochs x.lid) (get_or q.outboxes k [])) is (h.membership.owned m))
+          (subst (λ k. All (λ x. (owner q.epochs x.lid ≡ m) × IsSettled t q.epochs x.lid) (get_or q.outboxes k [])) is (h.owned m))
           (ap (λ f. owner f e.lid) same ∙ sym is, settled))
     ]
   ];
