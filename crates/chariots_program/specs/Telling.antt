@@ -11,7 +11,7 @@ pub record IsTold (form : Form) (script : Script) (told : Told) : Type 0 where
   pub text : told.text.items ≡ text_of form told.run told.stages
 
 -- It is so of the script that the source had left.
-pub record IsToldOfSource (form : Form) (old new : Option (List ℕ)) (told : Told) : Type 0 where
+pub record IsToldOfSource (form : Form) (old new : Option (List ℕ)) (before now : ℕ) (told : Told) : Type 0 where
   pub script : Script
-  pub read : WasRead old new script
+  pub read : WasRead old new before now script
   pub report : IsTold form script told

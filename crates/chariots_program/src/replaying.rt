@@ -1,12 +1,10 @@
 //! A script is read and replayed, and its report is made and written.
-ghost use Rattle.std.specs.Prelude.{◌≡◌, ◌⊎◌, Some, IfOk, IfErr, All};
-ghost use Rattle.std.specs.Io.KnownBytes.{Appends};
-ghost use Rattle.cz_base.specs.Faults.{Rose};
+ghost use Rattle.std.specs.Prelude.{◌≡◌, Some, IfOk, IfErr, All};
 ghost use Rattle.abstract_log.specs.Fits.{FitsLimits, FitsScript};
 ghost use Rattle.abstract_log.specs.Left.{left_of};
 ghost use Rattle.abstract_log.specs.Runs.{IsRun, world_of};
 ghost use Rattle.abstract_log.specs.Turns.{FitsStep, IsBuiltStep};
-ghost use Rattle.chariots_program.specs.Ending.{IsRefusedFor, WasRead, WritesFront, text_of};
+ghost use Rattle.chariots_program.specs.Ending.{EndsReport, IsRefusedFor, WasRead, WritesFront, text_of};
 ghost use Rattle.chariots_program.specs.Telling.{IsTold, IsToldOfSource};
 
 use crate::done::{Done, Refusal, bad_line, write_front};
@@ -39,7 +37,7 @@ pub fn read_and_replay<S: Source>(
     form: Form,
     source: &mut S,
 ) -> Result<Told, Refusal>
-    ensures ok { IfOk result (IsToldOfSource form (S.left source.old) (S.left source.new)) }
+    ensures ok { IfOk result (IsToldOfSource form (S.left source.old) (S.left source.new) (S.faults source.old) (S.faults source.new)) }
     ensures refused { IfErr result (IsRefusedFor (S.left source.old) (S.left source.new) (S.faults source.old) (S.faults source.new)) }
 {
     let script = read(alloc, source)?;
@@ -48,7 +46,7 @@ pub fn read_and_replay<S: Source>(
 
 // Reads all that the source still gives, as a script.
 fn read<S: Source>(alloc: Global, source: &mut S) -> Result<Script, Refusal>
-    ensures read { IfOk result (WasRead (S.left source.old) (S.left source.new)) }
+    ensures read { IfOk result (WasRead (S.left source.old) (S.left source.new) (S.faults source.old) (S.faults source.new)) }
     ensures fits { IfOk result FitsScript }
     ensures steps { IfOk result (λ script. All (FitsStep script.workload) script.steps × All IsBuiltStep script.steps) }
     ensures refused { IfErr result (IsRefusedFor (S.left source.old) (S.left source.new) (S.faults source.old) (S.faults source.new)) }
@@ -109,7 +107,7 @@ pub fn report<K: Sink>(told: Told, sink: &mut K) -> Done
     ensures run { result.run ≡ Some told.run }
     ensures stages { result.stages ≡ Some told.stages }
     ensures front { WritesFront (K.written sink.old) (K.written sink.new) (K.faults sink.old) (K.faults sink.new) told.text.items }
-    ensures status { ((result.status ≡ 0) × Appends (K.written sink.old) (K.written sink.new) told.text.items) ⊎ ((result.status ≡ 5) × Rose (K.faults sink.old) (K.faults sink.new)) }
+    ensures status { EndsReport (K.written sink.old) (K.written sink.new) (K.faults sink.old) (K.faults sink.new) told.text.items result.status }
 {
     let Told { run, stages, text } = told;
     let whole = write_front(sink, &text);
