@@ -19,7 +19,7 @@ use Rattle.abstract_log.specs.Steps.{CanHappen, after, names_without}
 use Rattle.stage_world.specs.StandsFor.{StandsAt, AreUnderWay, IsAsFar, IsDue, IsFromElsewhere, name_in}
 use Rattle.toid_filter.specs.Sums.{passed}
 use Rattle.abstract_log.specs.Shapes.{IsShaped}
-use Rattle.stage_world.specs.Stages.{is_draft_of, queue_at, Datacentre, under_way, after_filters}
+use Rattle.stage_world.specs.Stages.{is_draft_of, queue_at, Datacentre, after_filters}
 use Rattle.toid_filter.specs.Sums.{is_named}
 use Rattle.token_queue.specs.Items.{is_ready}
 use Rattle.token_queue.specs.Queues.{QueueState}

@@ -1,5 +1,5 @@
 -- The turn of a session: it begins its next command, or goes on with the one that is open.
-use Rattle.std.specs.Prelude.{ℕ, ◌+◌, ◌%◌, ◌==◌, if◌then◌else◌, nat_lt, List, [], ◌∷◌, ◌++◌, length, Some, find, slice_get}
+use Rattle.std.specs.Prelude.{ℕ, ◌%◌, ◌==◌, if◌then◌else◌, nat_lt, List, [], ◌∷◌, ◌++◌, length, Some, find, slice_get}
 use Rattle.std.specs.Option.{option_map_or}
 use Rattle.abstract_log.specs.declared.command.Command.{Command}
 use Rattle.abstract_log.specs.declared.command.Command.TheVariants.{Append as AppendCommand, Put, Get, Tx, Read as ReadCommand, Last as LastCommand}

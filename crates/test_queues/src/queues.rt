@@ -9,9 +9,9 @@ use causal_deps::{Item, Place};
 use cz_base::{Lid, NoMemory, Seq, Toid};
 use flstore_rounds::Epochs;
 use std::alloc::Global;
+use std::mem;
 use std::process::Abort;
 use std::test::Fail;
-use std::mem;
 use token_queue::{Queue, Stamp, StampFault, Token};
 
 // A record's position, host, number and session.
