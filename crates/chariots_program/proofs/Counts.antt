@@ -20,9 +20,12 @@ still_shows_none before now still rose = omega (arith, still.0, still.1, rose)
 
 -- A report.
 
+not-both : (n : ℕ) → n ≡ 0 → n ≡ 5 → ⊥
+not-both n none five = cc
+
 report-whole : (w w' : Option (List ℕ)) (f f' : ℕ) (text : List ℕ) (status : ℕ) → EndsReport w w' f f' text status → status ≡ 0 → f' ≡ f
 report-whole w w' f f' text status (inl whole) is = whole.1.1
-report-whole w w' f f' text status (inr cut) is = cc
+report-whole w w' f f' text status (inr cut) is = absurd (not-both status is cut.0)
 
 report-cut : (w w' : Option (List ℕ)) (f f' : ℕ) (text : List ℕ) (status : ℕ) → EndsReport w w' f f' text status → f < f' → status ≡ 5
 report-cut w w' f f' text status (inl whole) more = absurd (omega (arith, whole.1.1, more))
@@ -50,10 +53,12 @@ not-at : {such : Refusal → Type 0} (w w' : Option (List ℕ)) (f f' : ℕ) (do
 not-at w w' f f' done refused at = no_report refused.refusal (subst IsReportStatus refused.status at)
 
 none-there : {A : Type 0} (o : Option A) → o ≡ None → IsSome o → ⊥
-none-there o none some = cc
+none-there None none some = cc
+none-there (Some x) none some = cc
 
 some-there : {A : Type 0} (o : Option A) (x : A) → o ≡ Some x → IsSome o
-some-there o x is = cc
+some-there None x is = cc
+some-there (Some y) x is = refl
 
 -- What is told of a report or a refusal.
 
@@ -106,25 +111,25 @@ replay_report_fault form old new before now w w' f f' done (inr refused) some mo
 
 -- Whatever was asked.
 
+generated-run-told : (seed : ℕ) (w w' : Option (List ℕ)) (f f' : ℕ) (done : Done) → EndsGenerated seed w w' f f' done → IsSome done.run ↔ IsReportStatus done.status
+generated-run-told seed w w' f f' done (inl made) = told-run Summary (generated seed) w w' f f' done made
+generated-run-told seed w w' f f' done (inr refused) = untold-run w w' f f' done refused
+
 pub run_told : (task : Option Task) (old new : Option (List ℕ)) (before now : ℕ) (w w' : Option (List ℕ)) (f f' : ℕ) (done : Done) → EndsTask task old new before now w w' f f' done
     → IsSome done.run ↔ IsReportStatus done.status
 run_told None old new before now w w' f f' done ended = untold-run w w' f f' done ended.1
 run_told (Some (Replay form)) old new before now w w' f f' done ended = replay_run_told form old new before now w w' f f' done ended
 run_told (Some (Generate seed)) old new before now w w' f f' done ended = generated-run-told seed w w' f f' done ended.1
-  where
-    generated-run-told : (seed : ℕ) (w w' : Option (List ℕ)) (f f' : ℕ) (done : Done) → EndsGenerated seed w w' f f' done → IsSome done.run ↔ IsReportStatus done.status
-    generated-run-told seed w w' f f' done (inl made) = told-run Summary (generated seed) w w' f f' done made
-    generated-run-told seed w w' f f' done (inr refused) = untold-run w w' f f' done refused
+
+generated-stages-told : (seed : ℕ) (w w' : Option (List ℕ)) (f f' : ℕ) (done : Done) → EndsGenerated seed w w' f f' done → IsSome done.stages ↔ IsReportStatus done.status
+generated-stages-told seed w w' f f' done (inl made) = told-stages Summary (generated seed) w w' f f' done made
+generated-stages-told seed w w' f f' done (inr refused) = untold-stages w w' f f' done refused
 
 pub stages_told : (task : Option Task) (old new : Option (List ℕ)) (before now : ℕ) (w w' : Option (List ℕ)) (f f' : ℕ) (done : Done) → EndsTask task old new before now w w' f f' done
     → IsSome done.stages ↔ IsReportStatus done.status
 stages_told None old new before now w w' f f' done ended = untold-stages w w' f f' done ended.1
 stages_told (Some (Replay form)) old new before now w w' f f' done ended = replay_stages_told form old new before now w w' f f' done ended
 stages_told (Some (Generate seed)) old new before now w w' f f' done ended = generated-stages-told seed w w' f f' done ended.1
-  where
-    generated-stages-told : (seed : ℕ) (w w' : Option (List ℕ)) (f f' : ℕ) (done : Done) → EndsGenerated seed w w' f f' done → IsSome done.stages ↔ IsReportStatus done.status
-    generated-stages-told seed w w' f f' done (inl made) = told-stages Summary (generated seed) w w' f f' done made
-    generated-stages-told seed w w' f f' done (inr refused) = untold-stages w w' f f' done refused
 
 generated-kept : (seed : ℕ) (w w' : Option (List ℕ)) (f f' : ℕ) (done : Done) → EndsGenerated seed w w' f f' done → done.status ≡ 0 → f' ≡ f
 generated-kept seed w w' f f' done (inl made) is = report-whole _ _ _ _ _ _ made.status is
