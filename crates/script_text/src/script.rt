@@ -1,3 +1,5 @@
+//! Reading a whole script.
+
 ghost use Rattle.std.specs.Prelude.{◌≡◌, ℕ, All, IfOk, IsErrOf, MatchResult, Ok, Err};
 ghost use Rattle.script_text.specs.Lines.{lines};
 ghost use Rattle.abstract_log.specs.Fits.{FitsScript};
