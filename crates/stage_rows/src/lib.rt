@@ -3,11 +3,7 @@
 #![tactic(auto)]
 
 #[cfg(test)]
-mod event_rows;
-#[cfg(test)]
 mod link_rows;
-#[cfg(test)]
-mod log_rows;
 #[cfg(test)]
 mod maintainer_rows;
 #[cfg(test)]
