@@ -1,7 +1,7 @@
 -- What is written is read: lines that spell a script are accepted, with just that script.
 -- By induction on the sessions, steps and lines that are left; `Leads` says where lines one after another lead.
 -- The theorem is `what_is_written_is_read`; `all-only` is its form for the contract of `read_script`.
-use Rattle.std.proofs.Common.{◌≡◌, ◌≤◌, ◌+◌, ◌-◌, ℕ, List, [], ◌∷◌, ◌++◌, length, length-append, refl, ap, ap₂, sym, subst, ◌∙◌, arith, Bool, true, false, cond, not, ◌||◌, nat_eq, map, append_assoc, All}
+use Rattle.std.proofs.Common.{◌≡◌, ◌≤◌, ◌+◌, ℕ, List, [], ◌∷◌, ◌++◌, length, length-append, refl, ap, ap₂, sym, subst, ◌∙◌, arith, Bool, true, false, cond, not, ◌||◌, nat_eq, map, append_assoc, All}
 use Rattle.std.specs.Prelude.{Ok, Err, Result, codes, IfOk, IsErrOf, MatchResult}
 use Rattle.std.specs.List.{list_all, list_any, flat_map}
 use Rattle.std.proofs.lemmas.List.{append-nil}
@@ -23,8 +23,8 @@ use Rattle.script_text.specs.Reading.{◌>>=◌}
 use Rattle.script_text.specs.Keywords.{is_stages, is_sessions, is_ended}
 use Rattle.script_text.specs.Meaning.{start, words_after, is_passed_over, line_after, is_given, script_said, told, next_number, script_from, script_of}
 use Rattle.abstract_log.specs.Fits.{FitsCommand, FitsPlan, commands_of}
-use Rattle.script_text.specs.Spelled.{command_words, plan_lines, stages_words, before_steps, turn_words, steps_words, end_words, said_words, IsBuiltStep, AreGivenOnce, FitsStages, IsWritten}
-use Rattle.script_text.specs.Steps.{FitsStep}
+use Rattle.script_text.specs.Spelled.{command_words, plan_lines, stages_words, before_steps, turn_words, steps_words, end_words, said_words, AreGivenOnce, FitsStages, IsWritten}
+use Rattle.abstract_log.specs.Turns.{FitsStep, IsBuiltStep}
 use Rattle.std.proofs.lemmas.Bool.{or_parts, cond-true, cond-false}
 use Rattle.cz_base.specs.declared.limits.TheConstants.{DATACENTRES, SESSIONS, COMMANDS, STEPS, ROUND}
 use Rattle.script_text.specs.declared.fault.ScriptFault.TheVariants as fault

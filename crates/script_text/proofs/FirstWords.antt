@@ -1,7 +1,7 @@
 -- The first word of a line: each keyword is found by its own text, and chooses what the line means.
 -- By computation on the table of keywords.
 -- The theorem is `word_reads`.
-use Rattle.std.proofs.Common.{◌≡◌, ◌-◌, ℕ, List, ◌∷◌, length, refl, ap, ◌∙◌, Bool, true, false, cond, not, ◌||◌}
+use Rattle.std.proofs.Common.{◌≡◌, ℕ, List, ◌∷◌, length, refl, ap, ◌∙◌, Bool, true, false, cond, not, ◌||◌}
 use Rattle.std.specs.Prelude.{nat_lt, Err, Result, Option, Some, codes}
 use Rattle.script_text.specs.declared.fault.Cause.{Cause}
 use Rattle.script_text.specs.declared.fault.Cause.TheVariants.{OutOfPlace, NotBuilt, WrongWords}

@@ -1,6 +1,6 @@
 -- What a word that was read keeps: a body, a name, names and the sizes of a `stages` line are in their ranges.
 -- By the tests of `Reading`, word by word; `number_spells` of `Spelling` says it of numbers.
-use Rattle.std.proofs.Common.{◌≡◌, ◌<◌, ◌+◌, ℕ, List, [], ◌∷◌, length, ap, subst, ◌∙◌, arith, true, ◌&&◌, nat_eq, All, lit<}
+use Rattle.std.proofs.Common.{◌≡◌, ◌+◌, ℕ, List, [], ◌∷◌, length, ap, subst, ◌∙◌, arith, true, ◌&&◌, nat_eq, All, lit<}
 use Rattle.std.specs.Prelude.{nat_le, Ok, is_none, drop}
 use Rattle.std.specs.List.{list_all}
 use Rattle.std.proofs.lemmas.Bool.Decides.{nat_tests}

@@ -28,8 +28,8 @@ use Rattle.script_text.specs.Words.{words, is_line_byte, is_empty_word}
 use Rattle.script_text.specs.Reading.{number_at, datacentre_at, body_at, name_at, names_in, greatest_number}
 use Rattle.script_text.specs.Keywords.{text_of, turn_text, keyword_of, stands, is_built, turn_arguments, least_words, most_words, is_ended}
 use Rattle.script_text.specs.Meaning.{start, chariots_line, datacentres_line, round_line, sizes_at, stages_line, session_line, onto_last, with_command, append_line, put_line, get_line, tx_line, read_line, last_line, turn_line, command_meaning, meaning, keyword_after, words_after, is_passed_over, line_after, is_given, script_said, told, next_number, script_from, script_of}
-use Rattle.script_text.specs.Spelled.{letter, command_words, stages_words, first_words, datacentres_words, round_words, before_steps, turn_words, steps_words, end_words, said_words, Spells, IsBuiltStep, IsWritten}
-use Rattle.script_text.specs.Steps.{FitsStep}
+use Rattle.script_text.specs.Spelled.{letter, command_words, stages_words, first_words, datacentres_words, round_words, before_steps, turn_words, steps_words, end_words, said_words, Spells, IsWritten}
+use Rattle.abstract_log.specs.Turns.{FitsStep, IsBuiltStep}
 use Rattle.abstract_log.specs.Fits.{FitsScript}
 use Rattle.std.proofs.lemmas.Bool.{or_parts, not-false}
 use Rattle.cz_base.specs.declared.limits.TheConstants.{DATACENTRES, MEMBERS, SESSIONS, COMMANDS, ROUND, LAST_RECORDS}

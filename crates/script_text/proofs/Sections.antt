@@ -1,6 +1,6 @@
 -- The sections of a script: which one a test names, and how far it is along.
 -- By cases on the section; `rank` counts the sections in their order.
-use Rattle.std.proofs.Common.{◌≡◌, ◌≤◌, ℕ, refl, ap, arith, true, false, ◌||◌, inl, inr, ◌⊎◌, ◌-◌}
+use Rattle.std.proofs.Common.{◌≡◌, ◌≤◌, ℕ, refl, ap, arith, true, false, ◌||◌, inl, inr, ◌⊎◌}
 use Rattle.script_text.specs.declared.section.Section.{Section}
 use Rattle.script_text.specs.Keywords.{is_start, is_datacentres, is_round, is_stages, is_sessions, is_steps, is_ended}
 use Rattle.script_text.specs.declared.section.Section.TheVariants as section

@@ -1,7 +1,7 @@
 -- What the lines so far write, by the section that they reached, and how it grows by one line.
 -- By computation on the lists of lines.
 -- The theorem is `keyword_text`: a keyword that was found is the word that spells it.
-use Rattle.std.proofs.Common.{◌≡◌, ◌<◌, ◌+◌, ℕ, List, [], ◌∷◌, ◌++◌, length, refl, ap, sym, subst, ◌∙◌, arith, Bool, true, false, cond, ◌⊎◌, inl, inr, map, append_assoc}
+use Rattle.std.proofs.Common.{◌≡◌, ◌<◌, ℕ, List, [], ◌∷◌, ◌++◌, length, refl, ap, sym, subst, ◌∙◌, arith, Bool, true, false, cond, ◌⊎◌, inl, inr, map, append_assoc}
 use Rattle.std.specs.Prelude.{Some, codes, bytes_eq}
 use Rattle.std.specs.List.{list_all, find, flat_map}
 use Rattle.std.proofs.lemmas.Grind.{flat_map-append}

@@ -25,8 +25,8 @@ use Rattle.script_text.specs.Reading.{number_at, datacentre_at, body_at, name_at
 use Rattle.script_text.specs.Keywords.{keyword_of, stands, is_built, turn_arguments, least_words, most_words, is_ended}
 use Rattle.script_text.specs.Meaning.{start, chariots_line, datacentres_line, round_line, sizes_at, stages_line, session_line, onto_last, with_command, append_line, put_line, get_line, tx_line, read_line, last_line, turn_line, command_meaning, meaning, keyword_after, words_after, is_passed_over, line_after, is_given, sizes_found, sizes_given, sizes_upto, script_said}
 use Rattle.abstract_log.specs.Fits.{IsSize, FitsSizes, FitsCommand, FitsPlan, commands_of, FitsScript}
-use Rattle.script_text.specs.Spelled.{FitsStages, IsBuiltStep, AreGivenOnce}
-use Rattle.script_text.specs.Steps.{FitsStep}
+use Rattle.script_text.specs.Spelled.{FitsStages, AreGivenOnce}
+use Rattle.abstract_log.specs.Turns.{FitsStep, IsBuiltStep}
 use Rattle.std.proofs.lemmas.Bool.{or_parts, or_from, not-false}
 use Rattle.cz_base.specs.declared.limits.TheConstants.{DATACENTRES, SESSIONS, COMMANDS, STEPS, TAGS, KEYS, ROUND, LAST_RECORDS}
 use Rattle.abstract_log.specs.declared.command.Command.TheVariants as command

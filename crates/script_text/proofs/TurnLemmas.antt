@@ -17,8 +17,8 @@ use Rattle.script_text.specs.Keywords.{turn_text, turn_arguments}
 use Rattle.script_text.specs.Reading.{number_at, number_below_at, datacentre_at, other_datacentre_at, greatest_number}
 use Rattle.script_text.specs.Arguments.{no_arguments, argument_at, arguments_at, step_said}
 use Rattle.script_text.specs.Meaning.{with_step, turn_line}
-use Rattle.script_text.specs.Spelled.{letter, turn_words, IsBuiltStep}
-use Rattle.script_text.specs.Steps.{IsPosition, FitsStep, IsMember, IsPacket}
+use Rattle.script_text.specs.Spelled.{letter, turn_words}
+use Rattle.abstract_log.specs.Turns.{FitsStep, IsBuiltStep, IsMember, IsPacket, IsPosition}
 use Rattle.std.proofs.lemmas.List.{nil_from_length}
 use Rattle.cz_base.specs.declared.limits.TheConstants.{MEMBERS, STEPS, PACKETS}
 use Rattle.abstract_log.specs.declared.script.Step.TheVariants as step
@@ -145,7 +145,7 @@ turn_says load Client left given t w same =
     let end = w.1.1.1.1 in
     let said : okay (step.Client w.0) ≡ okay t = subst (λ (g : Arguments). step_said Client g ≡ okay t) (sym end.1) same in
     let words : left ≡ decimal w.0 ∷ [] = w.1.1.0 ∙ ap (λ (ws : List (List ℕ)). decimal w.0 ∷ ws) end.0 in
-    subst (λ (s : Step). IsTurn load Client left s) (okay-same (step.Client w.0) t said) (record { words = ap (λ (ws : List (List ℕ)). codes "client" ∷ ws) words; fits = w.1.1.1.0; built = tt })
+    subst (λ (s : Step). IsTurn load Client left s) (okay-same (step.Client w.0) t said) (record { words = ap (λ (ws : List (List ℕ)). codes "client" ∷ ws) words; fits = (w.1.1.1.0, tt); built = tt })
 turn_says load Flush left given t w same =
     let two = w.1.1.1.1 in
     let end = two.1.1.1.1 in
@@ -169,7 +169,7 @@ turn_says load Token left given t w same =
     let end = w.1.1.1.1 in
     let said : okay (step.Token w.0) ≡ okay t = subst (λ (g : Arguments). step_said Token g ≡ okay t) (sym end.1) same in
     let words : left ≡ letter w.0 ∷ [] = w.1.1.0 ∙ ap (λ (ws : List (List ℕ)). letter w.0 ∷ ws) end.0 in
-    subst (λ (s : Step). IsTurn load Token left s) (okay-same (step.Token w.0) t said) (record { words = ap (λ (ws : List (List ℕ)). codes "token" ∷ ws) words; fits = w.1.1.1.0; built = tt })
+    subst (λ (s : Step). IsTurn load Token left s) (okay-same (step.Token w.0) t said) (record { words = ap (λ (ws : List (List ℕ)). codes "token" ∷ ws) words; fits = (w.1.1.1.0, tt); built = tt })
 turn_says load Place left given t w same =
     let two = w.1.1.1.1 in
     let three = two.1.1.1.1 in
@@ -195,7 +195,7 @@ turn_says load Learn left given t w same =
     let end = w.1.1.1.1 in
     let said : okay (step.Learn w.0) ≡ okay t = subst (λ (g : Arguments). step_said Learn g ≡ okay t) (sym end.1) same in
     let words : left ≡ letter w.0 ∷ [] = w.1.1.0 ∙ ap (λ (ws : List (List ℕ)). letter w.0 ∷ ws) end.0 in
-    subst (λ (s : Step). IsTurn load Learn left s) (okay-same (step.Learn w.0) t said) (record { words = ap (λ (ws : List (List ℕ)). codes "learn" ∷ ws) words; fits = w.1.1.1.0; built = tt })
+    subst (λ (s : Step). IsTurn load Learn left s) (okay-same (step.Learn w.0) t said) (record { words = ap (λ (ws : List (List ℕ)). codes "learn" ∷ ws) words; fits = (w.1.1.1.0, tt); built = tt })
 turn_says load Send left given t w same =
     let two = w.1.1.1.1 in
     let three = two.1.1.1.1 in

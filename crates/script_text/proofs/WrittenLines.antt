@@ -1,7 +1,7 @@
 -- A line before `steps`, as it is written, is read and says what was written.
 -- By the words of each line (`WrittenWords`), and by cases on the command.
 -- The theorems are those whose names end in `takes`.
-use Rattle.std.proofs.Common.{◌≡◌, ◌<◌, ◌≤◌, ◌+◌, ◌-◌, ℕ, List, [], ◌∷◌, ◌++◌, length, refl, ap, ◌∙◌, arith, true, false, ◌||◌, nat_eq, All}
+use Rattle.std.proofs.Common.{◌≡◌, ◌<◌, ◌≤◌, ◌+◌, ℕ, List, [], ◌∷◌, ◌++◌, length, refl, ap, ◌∙◌, arith, true, false, ◌||◌, nat_eq, All}
 use Rattle.std.specs.Prelude.{nat_lt, Ok, Err, codes}
 use Rattle.std.specs.List.{list_any}
 use Rattle.std.specs.Fmt.{decimal}

@@ -1,7 +1,7 @@
 -- A step line, as it is written, is read and says the step.
 -- By induction on the kinds of arguments that its word has, and by cases on the step.
 -- The theorem is `turn_takes_line`.
-use Rattle.std.proofs.Common.{◌≡◌, ◌<◌, ◌≤◌, ◌+◌, ◌-◌, ℕ, List, [], ◌∷◌, ◌++◌, length, refl, ap, sym, subst, ◌∙◌, arith, true, false, ◌||◌}
+use Rattle.std.proofs.Common.{◌≡◌, ◌<◌, ◌≤◌, ℕ, List, [], ◌∷◌, ◌++◌, length, refl, ap, sym, subst, ◌∙◌, arith, true, false, ◌||◌}
 use Rattle.std.specs.Prelude.{nat_le, nat_lt, Ok, Err, Result, Some}
 use Rattle.std.specs.List.{list_any}
 use Rattle.std.specs.Fmt.{decimal}
@@ -19,13 +19,13 @@ use Rattle.script_text.specs.declared.arguments.Argument.TheVariants.{Datacentre
 use Rattle.script_text.specs.declared.arguments.Arguments.{Arguments}
 use Rattle.script_text.specs.declared.progress.Progress.{Progress}
 use Rattle.script_text.specs.declared.progress.Stages.{Stages as StagesOf}
-use Rattle.script_text.specs.Words.{words, is_empty_word}
+use Rattle.script_text.specs.Words.{is_empty_word}
 use Rattle.script_text.specs.Reading.{◌>>=◌, greatest_number}
 use Rattle.script_text.specs.Arguments.{no_arguments, argument_at, arguments_at, step_said}
 use Rattle.script_text.specs.Keywords.{turn_text, keyword_of, turn_is_built, turn_arguments}
 use Rattle.script_text.specs.Meaning.{with_step, turn_line}
-use Rattle.script_text.specs.Spelled.{letter, turn_words, IsBuiltStep}
-use Rattle.script_text.specs.Steps.{FitsStep}
+use Rattle.script_text.specs.Spelled.{letter, turn_words}
+use Rattle.abstract_log.specs.Turns.{FitsStep, IsBuiltStep}
 use Rattle.std.proofs.lemmas.Bool.{or_from, cond-false}
 use Rattle.cz_base.specs.declared.limits.TheConstants.{DATACENTRES, MEMBERS, SESSIONS, STEPS, PACKETS}
 use Rattle.abstract_log.specs.declared.script.Step.TheVariants as step
@@ -95,7 +95,7 @@ step_comes load (step.Client s) fits built = record {
   some = omega arith;
   many = refl;
   built = refl;
-  writes = (s, ([], (refl, (fits, (refl, refl)))));
+  writes = (s, ([], (refl, (fits.0, (refl, refl)))));
   says = refl;
 }
 step_comes load (step.Flush d b) fits built = record {
@@ -143,7 +143,7 @@ step_comes load (step.Token d) fits built = record {
   some = omega arith;
   many = refl;
   built = refl;
-  writes = (d, ([], (refl, (fits, (refl, refl)))));
+  writes = (d, ([], (refl, (fits.0, (refl, refl)))));
   says = refl;
 }
 step_comes load (step.Place d q m) fits built = record {
@@ -191,7 +191,7 @@ step_comes load (step.Learn d) fits built = record {
   some = omega arith;
   many = refl;
   built = refl;
-  writes = (d, ([], (refl, (fits, (refl, refl)))));
+  writes = (d, ([], (refl, (fits.0, (refl, refl)))));
   says = refl;
 }
 step_comes load (step.Send d k e) fits built = record {
