@@ -1,5 +1,8 @@
 //! Lines that are refused: behind the same lines each of them, with the first cause that applies.
-use crate::fronts::{EIGHT_DATACENTRES, ENDED, LINKS_OF_TWO, NO_SESSION, ONE_DATACENTRE, ONE_SESSION, SIZES_GIVEN, STEPS_OF_ONE_SESSION};
+use crate::fronts::{
+    EIGHT_DATACENTRES, ENDED, LINKS_OF_TWO, NO_SESSION, ONE_DATACENTRE, ONE_SESSION, SIZES_GIVEN,
+    STEPS_OF_ONE_SESSION,
+};
 use script_text::{Cause, ScriptFault, read_script};
 use std::alloc::Global;
 use std::process::Abort;
