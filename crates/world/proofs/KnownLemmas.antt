@@ -135,7 +135,7 @@ module _ (z : Stages) (xs : List DatacentreState) (known : AreKnown z xs) (d i :
   table_within to less =
       let inside : d < known.world.workload.dcs = omega (arith, within, count_known z xs known, known.stands.size) in
       asks_of (λ y. to < length y.table) d (datacentre_at z d) x lettered
-      (omega (arith, less, count_known z xs known, known.stands.size, (known.stands.each d inside).aware.square.rows))
+      (omega (arith, less, count_known z xs known, known.stands.size, (known.stands.each d inside).knowledge.aware.square.rows))
 
   pub asks_letter : ForSome x.stages (StandsForALog x.dc)
   asks_letter = asks d (datacentre_at z d) x lettered

@@ -86,9 +86,9 @@ taken_apart ms (suc k) m there same = absurd (omega (arith, length-remove ms k (
 
 -- a turn that does nothing is idle
 still_told : (load : Workload) (z : Stages) (step : Step) (o : Outcome) (changed : Bool) → changed ≡ false → step_of load z step ≡ still o z → TellsIdle load z step changed
-still_told load z step o changed no is = record {
+still_told load z step o changed unchanged is = record {
   idle = λ _. record { links = ap (λ m. m.after.links) is; datacentres = ap (λ m. map apart_from_epochs m.after.datacentres) is };
-  other = λ yes idle. absurd (let not : false ≡ true = sym no ∙ yes in cc);
+  other = λ yes idle. absurd (let not : false ≡ true = sym unchanged ∙ yes in cc);
 }
 
 module _ (dcs : ℕ) (z : Stages) (old : Network) (d e : ℕ) (shown : Shows dcs z old) (in_d : d < dcs) (in_e : e < dcs) where

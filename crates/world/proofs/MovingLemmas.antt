@@ -1,5 +1,5 @@
 -- What the turns of the code leave is what those of the stage world leave.
-use Rattle.std.proofs.Common.{◌≡◌, ℕ, ◌<◌, true, false, ltb, List, [], length, map, get_or, refl, ap, ap₂, sym, ◌∙◌, subst, arith, Option, Some, None, is_some, Result, Ok, Err, IfOk, OnOk}
+use Rattle.std.proofs.Common.{◌≡◌, ℕ, ◌<◌, ◌≤◌, true, false, ltb, List, [], length, map, get_or, refl, ap, ap₂, sym, ◌∙◌, subst, arith, Option, Some, None, is_some, Result, Ok, Err, IfOk, OnOk}
 use Rattle.std.specs.List.{All}
 use Rattle.std.specs.Option.{ForSome, option_map, option_map_or}
 use Rattle.std.proofs.Math.ListN.{get_or-map}
@@ -147,7 +147,7 @@ module _ (load : Workload) (step : Step) (z : Stages) (old : Network) (may : May
 
   -- its table has a row for each datacentre
   pub rows_are : (d : ℕ) → d < load.dcs → length (datacentre_at z d).table ≡ load.dcs
-  rows_are d within = (stands_there d within).aware.square.rows ∙ dcs_same
+  rows_are d within = (stands_there d within).knowledge.aware.square.rows ∙ dcs_same
 
   pub may_turn : (d : ℕ) → uses_link step ≡ false → d ≡ place_of_step load step → MayTurnAt d step old.datacentres
   may_turn d own at =

@@ -9,6 +9,7 @@ use lossy_links::{Copied, Link, Packet};
 
 /// What a put did to a link: whether the oldest packet was lost, and whether the link is another one. A full link of equal
 /// packets stays as it is where one more of them is put.
+#[derive(Drop)]
 pub(crate) struct PutDone {
     pub lost: bool,
     pub changed: bool,

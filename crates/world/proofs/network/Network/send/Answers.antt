@@ -19,6 +19,6 @@ returns-clause-moved c z may =
 
 pub returns-clause-told : goal.returns-clause-told
 returns-clause-told c z may =
-    sent_told c.args._workload.now z c.self.now c.args.d c.args.e may.shown may.fits.first may.fits.second (few_of _ _ z _ may) (all_spelled _ _ z _ may c.args.d c.args.e may.fits.first)
+    sent_told c.args._workload.now z _ c.args.d c.args.e may.shown may.fits.first may.fits.second (few_of _ _ z _ may) (all_spelled _ _ z _ may c.args.d c.args.e may.fits.first)
     _ c.args.k c.in_ok-done.done c.in_ok-done.packet c.put_sent.result (rows_are _ _ z _ may c.args.d may.fits.first)
     (c.in_ok-done.ensures (datacentre_at z c.args.d) (seen_at _ z _ c.args.d may.shown may.fits.first)) (λ none. (c.put_sent.ensures.absent none).1) c.put_sent.ensures.changed

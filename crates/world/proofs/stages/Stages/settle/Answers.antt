@@ -6,11 +6,8 @@ use Rattle.world.proofs.stages.Stages.settle.Goals as goal
 pub play_all-requires : goal.play_all-requires
 play_all-requires c = subst IsTaken c.self.view_is (c.self.invariant c.if-self.false)
 
-pub returns-clause-run : goal.returns-clause-run
-returns-clause-run c = (settled_stages _ _ c.settled_worlds_are_finished.ensures (subst IsTaken c.self.view_is (c.self.invariant c.if-self.false)) c.in-Ok.ensures).run
+pub returns-in-Ok-clause-run : goal.returns-in-Ok-clause-run
+returns-in-Ok-clause-run c = (settled_stages _ _ c.settled_worlds_are_finished.ensures (subst IsTaken c.self.view_is (c.self.invariant c.if-self.false)) c.in-Ok.ensures).run
 
-pub returns-clause-finished : goal.returns-clause-finished
-returns-clause-finished c = (settled_stages _ _ c.settled_worlds_are_finished.ensures (subst IsTaken c.self.view_is (c.self.invariant c.if-self.false)) c.in-Ok.ensures).finished
-
-pub returns-clause-workload : goal.returns-clause-workload
-returns-clause-workload c = (settled_stages _ _ c.settled_worlds_are_finished.ensures (subst IsTaken c.self.view_is (c.self.invariant c.if-self.false)) c.in-Ok.ensures).workload
+pub returns-in-Ok-clause-finished : goal.returns-in-Ok-clause-finished
+returns-in-Ok-clause-finished c = (settled_stages _ _ c.settled_worlds_are_finished.ensures (subst IsTaken c.self.view_is (c.self.invariant c.if-self.false)) c.in-Ok.ensures).finished
