@@ -1,5 +1,5 @@
 -- What a summary counts.
-use Rattle.std.proofs.Common.{◌≡◌, ℕ, zero, suc, ◌+◌, ◌<◌, ◌≤◌, cond, eqb, ltb, List, [], ◌∷◌, ◌++◌, length, take, get_or, set, replicate, refl, ap, ap₂, sym, ◌∙◌, subst, inl, inr, arith, add-one, Option, codes, Result, Ok, Err, OnOk}
+use Rattle.std.proofs.Common.{◌≡◌, ℕ, zero, suc, ◌+◌, ◌<◌, ◌≤◌, cond, eqb, ltb, List, [], ◌∷◌, ◌++◌, length, take, get_or, replicate, refl, ap, ap₂, sym, ◌∙◌, subst, inl, inr, arith, add-one, Option, codes, Result, Ok, Err, OnOk}
 use Rattle.std.specs.Fmt.{decimal}
 use Rattle.std.specs.List.{Contains, count_by, sum_by}
 use Rattle.std.proofs.Math.Seq.{take-suc}
