@@ -1,5 +1,6 @@
 -- The ranges that each workload and each script keeps.
-use Rattle.std.specs.Prelude.{◌≡◌, ℕ, ◌+◌, ◌^◌, ◌<◌, ◌≤◌, List, [], ◌∷◌, length, All}
+use Rattle.std.specs.Prelude.{◌≡◌, ℕ, ◌+◌, ◌<◌, ◌≤◌, List, [], ◌∷◌, length, All}
+use Rattle.cz_base.specs.declared.limits.TheConstants.{COMMANDS, KEYS, LAST_RECORDS, MEMBERS, ROUND, SESSIONS, STEPS, TAGS}
 use Rattle.cz_base.specs.Text.{IsName, IsBody}
 use Rattle.abstract_log.specs.declared.command.Command.{Command}
 use Rattle.abstract_log.specs.declared.command.Command.TheVariants.{Append, Put, Get, Tx, Read, Last}
@@ -8,10 +9,11 @@ use Rattle.abstract_log.specs.declared.command.Workload.{Workload}
 use Rattle.abstract_log.specs.declared.script.Script.{Script}
 use Rattle.abstract_log.specs.declared.script.Sizes.{Sizes}
 use Rattle.abstract_log.specs.Shapes.{FitsWorkload}
+use Rattle.abstract_log.specs.Turns.{IsPosition}
 
 -- a number of members of a stage
 abbrev pub IsSize : ℕ → Type 0
-IsSize n = (1 ≤ n) × (n ≤ 16)
+IsSize n = (1 ≤ n) × (n ≤ MEMBERS)
 
 pub record FitsSizes (sizes : Sizes) : Type 0 where
   pub batchers : IsSize sizes.batchers
@@ -23,12 +25,12 @@ pub record FitsSizes (sizes : Sizes) : Type 0 where
   pub receivers : IsSize sizes.receivers
 
 abbrev pub FitsCommand : Command → Type 0
-FitsCommand (Append tags body) = (length tags ≤ 8) × (All IsName tags × IsBody body)
+FitsCommand (Append tags body) = (length tags ≤ TAGS) × (All IsName tags × IsBody body)
 FitsCommand (Put key body) = IsName key × IsBody body
 FitsCommand (Get key) = IsName key
-FitsCommand (Tx keys) = (1 ≤ length keys) × ((length keys ≤ 16) × All IsName keys)
-FitsCommand (Read lid) = (1 ≤ lid) × (lid < 2 ^ 32)
-FitsCommand (Last tag n) = IsName tag × ((1 ≤ n) × (n ≤ 64))
+FitsCommand (Tx keys) = (1 ≤ length keys) × ((length keys ≤ KEYS) × All IsName keys)
+FitsCommand (Read lid) = IsPosition lid
+FitsCommand (Last tag n) = IsName tag × ((1 ≤ n) × (n ≤ LAST_RECORDS))
 
 -- a session at one of so many datacentres
 pub record FitsPlan (dcs : ℕ) (plan : SessionPlan) : Type 0 where
@@ -40,16 +42,16 @@ abbrev pub commands_of : List SessionPlan → ℕ
 commands_of [] = 0
 commands_of (plan ∷ more) = length plan.commands + commands_of more
 
--- the limits of a workload: 1 to 8 datacentres, at most 64 sessions and 16384 commands, each in its ranges
+-- the limits of a workload: how many datacentres, sessions and commands it has, each in its ranges
 pub record FitsLimits (load : Workload) : Type 0 where
   pub workload : FitsWorkload load
-  pub sessions : length load.sessions ≤ 64
+  pub sessions : length load.sessions ≤ SESSIONS
   pub plans : All (FitsPlan load.dcs) load.sessions
-  pub commands : commands_of load.sessions ≤ 16384
+  pub commands : commands_of load.sessions ≤ COMMANDS
 
 pub record FitsScript (script : Script) : Type 0 where
   pub limits : FitsLimits script.workload
-  pub round : (1 ≤ script.round) × (script.round ≤ 1024)
+  pub round : (1 ≤ script.round) × (script.round ≤ ROUND)
   pub each : length script.sizes ≡ script.workload.dcs
   pub sizes : All FitsSizes script.sizes
-  pub steps : length script.steps ≤ 65536
+  pub steps : length script.steps ≤ STEPS

@@ -5,6 +5,7 @@ use cz_base::{DcId, Seq, Toid};
 /// What stands at a position of a log.
 #[derive(Debug, Drop)]
 pub enum Row {
+    /// This record.
     Kept(Record),
     /// The record was collected there: its name is left, and its body was given back.
     Gone { host: DcId, toid: Toid },

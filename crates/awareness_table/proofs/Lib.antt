@@ -1,1 +1,2 @@
+-- What the table of what is known stands on.
 pub mod Known

@@ -1,1 +1,2 @@
+-- Definitions of what is known to be held.
 pub mod Awareness

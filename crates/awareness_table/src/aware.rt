@@ -1,6 +1,9 @@
+//! The awareness table of one datacentre.
+
 ghost use Rattle.std.specs.Prelude.{◌≡◌, ◌<◌, ◌≤◌, ◌↔◌, length, IsTrue};
 ghost use Rattle.causal_deps.specs.Counts.{entry_of, greater_rows, raised_row, zero_table};
 ghost use Rattle.awareness_table.specs.Awareness.{IsKnownEverywhere, IsLeast, is_known_everywhere};
+ghost use Rattle.cz_base.specs.declared.limits.TheConstants.{DATACENTRES};
 
 use causal_deps::{Counts, Table};
 use cz_base::{DcId, Toid};
@@ -28,7 +31,7 @@ impl Model for Aware {
 impl Aware {
     /// The datacentre knows of no record anywhere.
     pub fn new(dc: DcId, dcs: u32) -> Self
-        requires dcs { (1 ≤ dcs) × (dcs ≤ 8) }
+        requires dcs { (1 ≤ dcs) × (dcs ≤ DATACENTRES) }
         requires dc { dc < dcs }
         ensures { result ≡ record { dc = dc; table = zero_table dcs } }
     {
@@ -93,7 +96,7 @@ impl Aware {
 
     // Entry h of row k.
     fn entry(&self, k: u32, h: DcId) -> u64
-        requires row { (k < 8) × (k < length self.now.table) }
+        requires row { (k < DATACENTRES) × (k < length self.now.table) }
         requires column { h < length self.now.table }
         ensures { result ≡ entry_of self.now.table k h }
     {

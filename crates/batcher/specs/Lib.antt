@@ -1,1 +1,2 @@
+-- Definitions of where items go.
 pub mod Batchers

@@ -1,8 +1,14 @@
 //! A batcher collects items and sends each to its filter: a record to the champion of its number, a
 //! draft by its session.
 //!
-//! The model of a batcher is the list of its items. The layer above gets from it that a flush loses
-//! no item, keeps their order and names the one filter that each belongs to.
+//! Model: a [`Batcher`] is seen as the list of its items in the order in which they came.
+//!
+//! To the layer above: a flush loses no item, keeps their order and names the one filter that each belongs
+//! to (`parcel_of`); after want of memory the batcher is as before.
+//!
+//! Decided: a flush takes the memory for its answer first, so that it moves every item or none.
+//!
+//! Tests: the crate `test_filters`.
 #![tactic(auto)]
 
 ghost use Rattle.std.specs.Prelude.{◌≡◌, [], ◌∷◌, ◌++◌, ◌+◌, ◌<◌, ◌≤◌, All, map, vec_capacity, vec_len, IfErr, IfOk, OnErr, OnOk};
@@ -17,6 +23,7 @@ use toid_filter::Champions;
 /// An item with the number of the filter that it goes to.
 #[derive(Debug, Drop)]
 pub struct Parcel {
+    /// The number of the filter, from 0.
     pub filter: u32,
     pub item: Item,
 }
@@ -55,7 +62,7 @@ impl Batcher {
         self.items.push(item)
     }
 
-    /// Hands out each item with its filter, in order. After want of memory the batcher is as before.
+    /// Hands out each item with its filter, of so many, in order. After want of memory the batcher is as before.
     pub fn flush(&mut self, champions: &Champions, filters: u32) -> Result<Seq<Parcel>, NoMemory>
         requires filters { 1 ≤ filters }
         requires numbers { All HasNumber self.old }
@@ -66,7 +73,7 @@ impl Batcher {
         let mut parcels = Vec::with_capacity(self.items.alloc(), self.items.len())?;
         for item in self.items.take().into_vec() {
             let filter = filter_for(champions, filters, &item);
-            push_in_room(&mut parcels, Parcel { filter, item });
+            parcels.push_reserved(Parcel { filter, item });
         }
         Ok(Seq::from_vec(parcels))
     }
@@ -81,18 +88,5 @@ fn filter_for(champions: &Champions, filters: u32, item: &Item) -> u32
     match item {
         Item::Local(draft) => draft.session % filters,
         Item::External(rec) => champions.champion(rec.host, rec.toid),
-    }
-}
-
-/// The parcel goes last, where there is room for it.
-fn push_in_room(parcels: &mut Vec<Parcel>, parcel: Parcel)
-    requires { vec_len parcels.old < vec_capacity parcels.old }
-    ensures items { parcels.new.items ≡ parcels.old.items ++ parcel ∷ [] }
-    ensures len { vec_len parcels.new ≡ vec_len parcels.old + 1 }
-    ensures capacity { vec_capacity parcels.old ≤ vec_capacity parcels.new }
-{
-    match parcels.push(parcel) {
-        Ok(()) => {}
-        Err(_) => unreachable!(),
     }
 }

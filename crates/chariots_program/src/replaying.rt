@@ -3,8 +3,7 @@ ghost use Rattle.std.specs.Prelude.{◌≡◌, Some, IfOk, IfErr, All};
 ghost use Rattle.abstract_log.specs.Fits.{FitsLimits, FitsScript};
 ghost use Rattle.abstract_log.specs.Left.{left_of};
 ghost use Rattle.abstract_log.specs.Runs.{IsRun, world_of};
-ghost use Rattle.script_text.specs.Spelled.{IsBuiltStep};
-ghost use Rattle.script_text.specs.Steps.{FitsStep};
+ghost use Rattle.abstract_log.specs.Turns.{FitsStep, IsBuiltStep};
 ghost use Rattle.chariots_program.specs.Ending.{EndsReport, IsRefusedFor, WasRead, WritesFront, text_of};
 ghost use Rattle.chariots_program.specs.Telling.{IsTold, IsToldOfSource};
 

@@ -80,7 +80,7 @@ floor_is : (p : Parts) (v : Pair) (to : ℕ) → MayTurn p → v ≡ vector_at p
 floor_is p v to may is =
     ap (λ (x : Pair). risen p.floor to (head x) (covered_by p.indexers)) is
     ∙ ap (λ n. max p.floor.floor (lowest n p.floor.pins)) (least_again to (head (vector_at p.vectors 0)) (covered_by p.indexers))
-    ∙ ap (λ n. max p.floor.floor n) (same_least p.floor p.sessions (least_with (min to (head (vector_at p.vectors 0))) (covered_by p.indexers)) (pins_held p.sessions p.floor may.log.stands.ordered may.whole.pins) may.whole.pins)
+    ∙ ap (λ n. max p.floor.floor n) (same_least p.floor p.sessions (least_with (min to (head (vector_at p.vectors 0))) (covered_by p.indexers)) (pins_held p.sessions p.floor may.log.stands.clients.ordered may.whole.pins) may.whole.pins)
 
 pub raise_is : (p : Parts) (v : Pair) (to : ℕ) (g : Floored) (done : TurnDone) → MayTurn p → v ≡ get_or p.vectors 0 v
     → g ≡ record p.floor { floor = risen p.floor to (head v) (covered_by p.indexers) } → done.outcome ≡ FloorAt g.floor → done.events ≡ [] → done.changed ≡ nat_lt p.floor.floor g.floor

@@ -42,7 +42,7 @@ left_is : (p : Parts) (n : ℕ) (rows : List Row) (table : List (List ℕ)) → 
     → IsLeftByParts p (record { rows = rows; table = table })
 left_is p n rows table count told known w stands = λ i. record {
   rows = (told ∙ ap (λ k. rows_told k p.queues p.maintainers p.collected) count ∙ rows_seen (token_seen p.queues).last p.queues p.maintainers p.collected ∙ rows_are w p.dc (seen p) stands) i;
-  table = (known ∙ stands.aware.same) i;
+  table = (known ∙ stands.knowledge.aware.same) i;
 }
 
 pub left_with : (p : Parts) (r : Remains) (n : ℕ) (rows : List Row) → r ≡ record { queues = p.queues; maintainers = p.maintainers; collected = p.collected; table = p.table.table }

@@ -38,13 +38,13 @@ pub record AreFew (p : Parts) : Type 0 where
 
 pub are_few : (p : Parts) → StandsForALog p.dc (seen p) → AreFew p
 are_few p log = record {
-  batchers = log.stands.members.ranges.batchers.1;
-  filters = log.stands.members.ranges.filters.1;
-  queues = omega (arith, log.stands.members.ranges.queues.1, length-map p.queues tokenless);
-  maintainers = omega (arith, log.stands.members.ranges.maintainers.1, length-map p.maintainers (λ (y : MaintainerState Record). plain y));
-  indexers = log.stands.members.ranges.indexers.1;
-  senders = log.stands.members.ranges.senders.1;
-  holder = omega (arith, log.stands.members.ranges.queues.1, log.stands.members.holder);
+  batchers = log.stands.membership.members.ranges.batchers.1;
+  filters = log.stands.membership.members.ranges.filters.1;
+  queues = omega (arith, log.stands.membership.members.ranges.queues.1, length-map p.queues tokenless);
+  maintainers = omega (arith, log.stands.membership.members.ranges.maintainers.1, length-map p.maintainers (λ (y : MaintainerState Record). plain y));
+  indexers = log.stands.membership.members.ranges.indexers.1;
+  senders = log.stands.membership.members.ranges.senders.1;
+  holder = omega (arith, log.stands.membership.members.ranges.queues.1, log.stands.membership.members.holder);
 }
 
 some_at : (b : Bool) (z x : Datacentre) → cond b None (Some z) ≡ Some x → z ≡ x

@@ -37,8 +37,8 @@ post_is p m i x x' y y' done may in_m in_i is_x is_y same new outcome events cha
     let indexers : set p.indexers i y' ≡ turned.after.indexers = ap (set p.indexers i) now in
     let mark : nat_lt (mark_at y.pair m) (post_mark x (mark_at y.pair m)) ≡ nat_lt (mark_at (indexer_at p.indexers i).pair m) (post_mark (maintainer_at z.maintainers m) (mark_at (indexer_at p.indexers i).pair m)) =
     ap (nat_lt (mark_at y.pair m)) (mark_plain x (maintainer_at z.maintainers m) (mark_at y.pair m) at) ∙ ap (λ (n : IndexerState). nat_lt (mark_at n.pair m) (post_mark (maintainer_at z.maintainers m) (mark_at n.pair m))) old in
-    let size : length (indexer_at z.indexers i).pair.marks ≡ 16 = (may.log.stands.indexers i no_indexer in_i).1.has.size in
-    let small : m < length (indexer_at z.indexers i).pair.marks = omega (arith, size, in_m, as_many p, may.log.stands.members.ranges.maintainers.1) in
+    let size : length (indexer_at z.indexers i).pair.marks ≡ 16 = (may.log.stands.coverage.indexers i no_indexer in_i).1.has.size in
+    let small : m < length (indexer_at z.indexers i).pair.marks = omega (arith, size, in_m, as_many p, may.log.stands.membership.members.ranges.maintainers.1) in
     let may_z : MayPost (maintainer_at z.maintainers m) m (indexer_at z.indexers i) = may_post may.log.world p.dc z m i (omega (arith, in_m, as_many p)) in_i may.log.stands in
     there p (record p { maintainers = set p.maintainers m x'; indexers = set p.indexers i y' }) done (ltb m (length p.maintainers) && ltb i (length p.indexers)) turned
     (ap₂ (λ a b. a && b) (lt-ltb m (length p.maintainers) in_m) (lt-ltb i (length p.indexers) in_i)) (record {

@@ -108,14 +108,14 @@ module _ (p : Parts) (s i : ℕ) (x : Session) (may : MayTurn p) (found : Some i
   -- what is pinned is the session's own, and not below the floor
 
   pin_here : pin_of p.floor x.number ≡ x.pin
-  pin_here = pins_held p.sessions p.floor may.log.stands.ordered may.whole.pins i x within (sym is)
+  pin_here = pins_held p.sessions p.floor may.log.stands.clients.ordered may.whole.pins i x within (sym is)
 
   pins_above : (n q : ℕ) → pin_of p.floor n ≡ Some q → p.floor.floor ≤ q
   pins_above n q held =
-      pinned_by (IsAsFar w.workload w.sessions log p.dc p.floor.floor) (p.floor.floor ≤ q) p.sessions n q may.log.stands.sessions (λ y far pin. (far.pinned q pin).kept) (sym (may.whole.pins n) ∙ held)
+      pinned_by (IsAsFar w.workload w.sessions log p.dc p.floor.floor) (p.floor.floor ≤ q) p.sessions n q may.log.stands.clients.sessions (λ y far pin. (far.pinned q pin).kept) (sym (may.whole.pins n) ∙ held)
 
   far : IsAsFar w.workload w.sessions log p.dc p.floor.floor x
-  far = All-contains (IsAsFar w.workload w.sessions log p.dc p.floor.floor) p.sessions x may.log.stands.sessions has
+  far = All-contains (IsAsFar w.workload w.sessions log p.dc p.floor.floor) p.sessions x may.log.stands.clients.sessions has
 
   small : x.number < 64
   small = omega (arith, far.home.there, may.log.lawful.limits.sessions)
@@ -134,7 +134,7 @@ module _ (p : Parts) (s i : ℕ) (x : Session) (may : MayTurn p) (found : Some i
   shows : ShowsLog (vector_at p.vectors (s % p.first_maintainers)) p.maintainers p.indexers p.floor log
   shows =
       shows_lent (vector_at p.vectors (s % p.first_maintainers)) p.maintainers p.indexers p.floor log
-      (shows_log w p.dc z may.log.lawful may.log.stands (s % p.first_maintainers) p.floor (omega (arith, mod-lt s may.log.stands.served.0, may.log.stands.served.1)) refl pins_above)
+      (shows_log w p.dc z may.log.lawful may.log.stands (s % p.first_maintainers) p.floor (omega (arith, mod-lt s may.log.stands.coverage.served.0, may.log.stands.coverage.served.1)) refl pins_above)
 
   -- each log that the stages show gives the turn: that of the world, too
   pub turn_by_log : (P : List Record → Type 0) → ((l : List Record) → ShowsLog (vector_at p.vectors (s % p.first_maintainers)) p.maintainers p.indexers p.floor l → HasFound l x → P l) → P log
@@ -145,7 +145,7 @@ module _ (p : Parts) (s i : ℕ) (x : Session) (may : MayTurn p) (found : Some i
       → IsTurned p (record p { sessions = set p.sessions i x'; batchers = bs }) done (client_turn p.dc z s)
   write_is x' bs done is_write new batchers outcome events changed =
       subst (IsTurned p (record p { sessions = set p.sessions i x'; batchers = bs }) done)
-      (sym (turn_of_it ∙ write_is_turn p.dc z i x may.log.stands.ordered within (sym is) is_write)) (record {
+      (sym (turn_of_it ∙ write_is_turn p.dc z i x may.log.stands.clients.ordered within (sym is) is_write)) (record {
         stages = ap₂ (λ y b. record z { sessions = set p.sessions i y; batchers = b }) new batchers;
         here = refl;
         whole = record {
@@ -177,7 +177,7 @@ module _ (p : Parts) (s i : ℕ) (x : Session) (may : MayTurn p) (found : Some i
         | inl same ↦
             ap (λ k. get_or g.pins k None) same ∙ ap (λ ps. get_or ps x.number None) pins
             ∙ get_or-set_same p.floor.pins x.number taken.session.pin None (omega (arith, small, may.whole.many))
-            ∙ sym (ap (pin_in (set p.sessions i x')) same ∙ pin_there p.sessions i x x' may.log.stands.ordered within (sym is) same_number ∙ ap (λ (y : Session). y.pin) new)
+            ∙ sym (ap (pin_in (set p.sessions i x')) same ∙ pin_there p.sessions i x x' may.log.stands.clients.ordered within (sym is) same_number ∙ ap (λ (y : Session). y.pin) new)
         | inr another ↦
             ap (λ ps. get_or ps n None) pins ∙ get_or-set_other p.floor.pins x.number n taken.session.pin None another ∙ may.whole.pins n
             ∙ sym (pins_other p.sessions i x x' n (sym is) same_number another)
@@ -236,7 +236,7 @@ all_lent p k = whole_is_lent k (seen p) p.maintainers refl
 pub look_may : (p : Parts) (k to n : ℕ) → StandsForALog p.dc (seen p) → to < length p.table.table → n ≡ length p.senders → MayLook p.dc to n p.maintainers p.table.table
 look_may p k to n log there many =
     subst (λ s. MayLook p.dc to s p.maintainers p.table.table) (sym many)
-    (may_look log.world p.dc to k (seen p) p.maintainers log.stands (omega (arith, there, log.stands.aware.square.rows)) (all_lent p k))
+    (may_look log.world p.dc to k (seen p) p.maintainers log.stands (omega (arith, there, log.stands.knowledge.aware.square.rows)) (all_lent p k))
 
 pub told_all : (p : Parts) (k to n : ℕ) → n ≡ length p.senders → told_by p.dc to k n p.maintainers p.table.table ≡ message_of p.dc (seen p) k to
 told_all p k to n many = ap (λ s. told_by p.dc to k s p.maintainers p.table.table) many ∙ told_is p.dc to k (seen p) p.maintainers (all_lent p k)
@@ -249,7 +249,7 @@ module _ (p : Parts) (k to n : ℕ) (x : SenderState) (may : MayTurn p) (within 
   send_may there =
       subst (λ d. MayTell d to k n p.maintainers p.table.table) (sym own)
       (subst (λ s. MayTell p.dc to k s p.maintainers p.table.table) (sym many)
-      (may_tell may.log.world p.dc to k (seen p) p.maintainers may.log.lawful may.log.stands (omega (arith, there, may.log.stands.aware.square.rows)) (all_lent p k)))
+      (may_tell may.log.world p.dc to k (seen p) p.maintainers may.log.lawful may.log.stands (omega (arith, there, may.log.stands.knowledge.aware.square.rows)) (all_lent p k)))
 
   told_here : told_by x.dc to k n p.maintainers p.table.table ≡ message_of p.dc (seen p) k to
   told_here = ap (λ d. told_by d to k n p.maintainers p.table.table) own ∙ told_all p k to n many
@@ -283,5 +283,5 @@ receive_is p r m bs table done may rows batchers outcome events changed = record
   whole = record { token = may.whole.token; table = ap (λ (t : Awareness). t.dc) rows ∙ may.whole.table; senders = may.whole.senders; pins = may.whole.pins; many = may.whole.many };
   outcome = outcome;
   events = events;
-  changed = receive_tells (seen p) r m done.changed (mod-lt r may.log.stands.members.ranges.batchers.0) changed;
+  changed = receive_tells (seen p) r m done.changed (mod-lt r may.log.stands.membership.members.ranges.batchers.0) changed;
 }

@@ -215,7 +215,7 @@ pub as_many : (p : Parts) → length (maintainers_seen p.maintainers) ≡ length
 as_many p = length-map p.maintainers (λ (y : MaintainerState Record). plain y)
 
 pub member_few : (p : Parts) (m : ℕ) → MayTurn p → m < length p.maintainers → m < 16
-member_few p m may within = omega (arith, within, as_many p, may.log.stands.members.ranges.maintainers.1)
+member_few p m may within = omega (arith, within, as_many p, may.log.stands.membership.members.ranges.maintainers.1)
 
 pub place_may : (p : Parts) (q m : ℕ) (queue : QueueState) (x : MaintainerState Record) → MayTurn p → q < length p.queues → m < length p.maintainers → queue ≡ get_or p.queues q queue → x ≡ get_or p.maintainers m x → MayPlaceFrom queue m x
 place_may p q m queue x may in_q in_m is_q is_m =
@@ -249,7 +249,7 @@ place_is p q m queue queue' x x' done may in_q in_m is_q is_m new_q new_m outcom
 -- gossip
 
 vectors_many : (p : Parts) → MayTurn p → length p.vectors ≡ length p.maintainers
-vectors_many p may = may.log.stands.members.vectors ∙ as_many p
+vectors_many p may = may.log.stands.membership.members.vectors ∙ as_many p
 
 pub gossip_may : (p : Parts) (m k : ℕ) (x : MaintainerState Record) → MayTurn p → m < length p.maintainers → k < length p.maintainers → x ≡ get_or p.maintainers m x → MayGossip x p.vectors m k
 gossip_may p m k x may in_m in_k is =
@@ -277,7 +277,7 @@ gossip_is p m k x x' vs done may in_m in_k is same told outcome events changed =
 -- learn
 
 pub first_there : (p : Parts) → MayTurn p → 0 < length p.vectors
-first_there p may = omega (arith, may.log.stands.served.0, may.log.stands.served.1)
+first_there p may = omega (arith, may.log.stands.coverage.served.0, may.log.stands.coverage.served.1)
 
 pub vector_there : (p : Parts) → MayTurn p → 0 < length p.vectors
 vector_there p may = first_there p may

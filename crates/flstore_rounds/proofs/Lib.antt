@@ -1,3 +1,4 @@
+-- What calls and laws of epochs and heads stand on.
 pub mod EpochLemmas
 pub mod HeadLemmas
 pub mod OwnerLemmas

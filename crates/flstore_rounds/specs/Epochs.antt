@@ -1,6 +1,7 @@
 -- Epochs: from each start on, so many members own the positions in turn, a round at a time.
 use Rattle.std.specs.Prelude.{◌≡◌, ◌≢◌, ℕ, ◌-◌, ◌/◌, ◌%◌, ◌^◌, ◌<◌, ◌≤◌, if◌then◌else◌, nat_le, nat_lt, List, [], ◌∷◌, ◌++◌, length, take, drop, slice_index_or, All}
 use Rattle.flstore_rounds.specs.declared.epochs.Epoch.{Epoch}
+use Rattle.cz_base.specs.declared.limits.TheConstants.{MEMBERS, NUMBERS_END, ROUND}
 
 -- the length of a round, and the epochs by rising starts
 pub record EpochList : Type 0 where
@@ -67,11 +68,11 @@ last_epoch t = last_from first_epoch t.list
 -- what every list of epochs keeps: the first epoch starts at 1, starts and members rise, and numbers are in their ranges
 pub record IsEpochList (t : EpochList) : Type 0 where
   pub round_from : 1 ≤ t.round
-  pub round_to : t.round ≤ 1024
+  pub round_to : t.round ≤ ROUND
   pub some : 1 ≤ length t.list
   pub first : (epoch_at t.list 0).start ≡ 1
-  pub lids : All (λ e. e.start < 2 ^ 48) t.list
+  pub lids : All (λ e. e.start < NUMBERS_END) t.list
   pub some_members : All (λ e. 1 ≤ e.members) t.list
-  pub few_members : All (λ e. e.members ≤ 16) t.list
+  pub few_members : All (λ e. e.members ≤ MEMBERS) t.list
   pub starts_rise : (i j : ℕ) → i < j → j < length t.list → (epoch_at t.list i).start < (epoch_at t.list j).start
   pub members_rise : (i j : ℕ) → i < j → j < length t.list → (epoch_at t.list i).members < (epoch_at t.list j).members

@@ -2,8 +2,9 @@
 use Rattle.std.specs.Prelude.{◌≡◌, ◌⊎◌, ℕ, zero, suc, ◌+◌, ◌<◌, ◌≤◌, if◌then◌else◌, nat_lt, Bool, IsTrue, List, sum, replicate, slice_index, slice_set, All}
 use Rattle.causal_deps.specs.Counts.{greater, raised}
 use Rattle.flstore_rounds.specs.Epochs.{EpochList, owner, IsPrefix, later_than, longer}
+use Rattle.cz_base.specs.declared.limits.TheConstants.{MEMBERS}
 
--- an epoch list, and for each of 16 members the position below which it has all that it owns
+-- an epoch list, and for each member that there may be the position below which it has all that it owns
 pub record Pair : Type 0 where
   pub epochs : EpochList
   pub marks : List ℕ
@@ -13,7 +14,7 @@ mark_at v m = slice_index v.marks m
 
 -- nothing is marked
 abbrev pub blank : EpochList → Pair
-blank e = record { epochs = e; marks = replicate 16 1 }
+blank e = record { epochs = e; marks = replicate MEMBERS 1 }
 
 -- a pair that speaks of one member
 abbrev pub single : EpochList → ℕ → ℕ → Pair

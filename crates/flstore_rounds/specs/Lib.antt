@@ -1,2 +1,3 @@
+-- Definitions of epochs and owners, and of marks and heads.
 pub mod Epochs
 pub mod Heads

@@ -4,6 +4,7 @@ ghost use Rattle.std.specs.Prelude.{◌≡◌, ℕ, ◌<◌, ◌≤◌, ◌^◌,
 ghost use Rattle.flstore_rounds.specs.declared.epochs.Epoch.{Epoch};
 ghost use Rattle.flstore_rounds.specs.Epochs.{EpochList, IsEpochList, IsPrefix, IsSettled, epoch_at, last_epoch, later_than, owner, with_epoch};
 ghost use Rattle.flstore_rounds.specs.Heads.{IsBelowMark, IsHead, IsTrueMark, IsTrueOf, Pair, blank, head, joined, mark_at, single, with_own};
+ghost use Rattle.cz_base.specs.declared.limits.TheConstants.{MEMBERS, NUMBERS_END, ROUND};
 
 /// A list deals a position as a longer one does, where each epoch that it lacks starts above it.
 pub fn settled_positions_keep_their_owner()
@@ -18,8 +19,8 @@ pub fn the_next_start_is_the_least()
 /// One epoch from the first position on is a list, and a list stays one where an epoch is added that starts
 /// above the last one and has more members.
 pub fn later_epochs_keep_lists()
-    ensures first { (round members : ℕ) → 1 ≤ round → round ≤ 1024 → 1 ≤ members → members ≤ 16 → IsEpochList (record { round = round; list = record { start = 1; members = members } ∷ [] }) }
-    ensures more { (t : EpochList) (epoch : Epoch) → IsEpochList t → (last_epoch t).start < epoch.start → (last_epoch t).members < epoch.members → epoch.start < 2 ^ 48 → epoch.members ≤ 16 → IsEpochList (with_epoch t epoch) }
+    ensures first { (round members : ℕ) → 1 ≤ round → round ≤ ROUND → 1 ≤ members → members ≤ MEMBERS → IsEpochList (record { round = round; list = record { start = 1; members = members } ∷ [] }) }
+    ensures more { (t : EpochList) (epoch : Epoch) → IsEpochList t → (last_epoch t).start < epoch.start → (last_epoch t).members < epoch.members → epoch.start < NUMBERS_END → epoch.members ≤ MEMBERS → IsEpochList (with_epoch t epoch) }
 {}
 
 /// A pair has one head, `head` is it, and no position above it has only positions below marks up to it.

@@ -2,11 +2,12 @@
 ghost use Rattle.std.specs.Prelude.{◌≡◌, ◌≢◌, ℕ, ◌+◌, ◌<◌, ◌≤◌, ◌^◌, nat_le, true, false, length};
 ghost use Rattle.std.specs.List.Sorted.{IsPartitionedBy, IsPartitionPoint};
 ghost use Rattle.flstore_rounds.specs.Epochs.{IsEpochList, IsNextOwn, first_epoch, last_from, owner, owner_in};
+ghost use Rattle.cz_base.specs.declared.limits.TheConstants.{MEMBERS, NUMBERS_END, ROUND};
 
 use crate::Epoch;
 use cz_base::Lid;
 
-// The owner of p: the last epoch that starts at or before p deals it.
+/// The owner of p: the last epoch that starts at or before p deals it.
 pub fn owner_by(round: u32, epochs: &[Epoch], p: Lid) -> u32
     requires rounds { IsEpochList (record { round = round; list = epochs.now }) }
     requires first { 1 ≤ p }
@@ -26,10 +27,10 @@ fn begun(epochs: &[Epoch], p: Lid) -> usize
     epochs.partition_point(|epoch| epoch.start <= p)
 }
 
-// How many positions come from `from` on before the next one of member m, were there no later epoch.
+/// How many positions come from `from` on before the next one of member m, were there no later epoch.
 pub fn wait(round: u32, epoch: Epoch, m: u32, from: Lid) -> u64
-    requires round { (1 ≤ round) × (round ≤ 1024) }
-    requires members { (m < epoch.members) × (epoch.members ≤ 16) }
+    requires round { (1 ≤ round) × (round ≤ ROUND) }
+    requires members { (m < epoch.members) × (epoch.members ≤ MEMBERS) }
     requires from { epoch.start ≤ from }
     ensures own { owner_in round epoch (from + result) ≡ m }
     ensures least { (k : ℕ) → k < result → owner_in round epoch (from + k) ≢ m }
@@ -42,11 +43,11 @@ pub fn wait(round: u32, epoch: Epoch, m: u32, from: Lid) -> u64
     (round * turns).saturating_sub(passed % round)
 }
 
-// The least position of member m at or above p.
+/// The least position of member m at or above p.
 pub fn next_own_by(round: u32, epochs: &[Epoch], m: u32, p: Lid) -> Lid
     requires rounds { IsEpochList (record { round = round; list = epochs.now }) }
     requires first { 1 ≤ p }
-    requires lid { p ≤ 2 ^ 48 }
+    requires lid { p ≤ NUMBERS_END }
     requires member { m < (last_from first_epoch epochs.now).members }
     ensures least { IsNextOwn (record { round = round; list = epochs.now }) m p result }
     ensures within { result < 2 ^ 49 }

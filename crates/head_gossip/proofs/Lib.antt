@@ -1,1 +1,2 @@
+-- What vectors stand on.
 pub mod MarkLemmas

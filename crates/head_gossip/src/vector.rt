@@ -1,28 +1,34 @@
+//! Vectors: what a maintainer knows, tells and hears.
+
 ghost use Rattle.std.specs.Prelude.{◌≡◌, ℕ, ◌<◌, ◌≤◌, ◌⊎◌, Bool, IsTrue, IfOk, OnOk, OnErr};
 ghost use Rattle.causal_deps.specs.Counts.{greater};
 ghost use Rattle.flstore_rounds.specs.Epochs.{EpochList, IsPrefix};
 ghost use Rattle.flstore_rounds.specs.Heads.{IsHead, IsTrueMark, IsTrueOf, blank, head, joined, with_own};
 ghost use Rattle.head_gossip.specs.Marks.{AreMarks};
 ghost use Rattle.head_gossip.specs.Notes.{pair_of};
+ghost use Rattle.cz_base.specs.declared.limits.TheConstants.{MEMBERS};
 
+use cz_base::limits::MEMBERS;
 use cz_base::{Lid, NoMemory};
 use flstore_rounds::{Epochs, head_of};
 use std::alloc::Global;
 use std::marker::Model;
 
-/// What one maintainer tells another: its epoch list and the mark of each of 16 maintainers.
+/// What one maintainer tells another.
 #[derive(Debug, Drop)]
 pub struct Note {
+    /// Its epoch list.
     pub epochs: Epochs,
-    pub marks: [Lid; 16],
+    /// The mark of each maintainer that there may be, 1 at least.
+    pub marks: [Lid; MEMBERS],
 }
 
-/// What a maintainer knows: an epoch list, and for each of 16 maintainers a mark, below which that one
-/// has filled all that it owns; each mark is 1 at least. Contracts see both as a pair.
+/// What a maintainer knows: an epoch list, and for each maintainer that there may be a mark, below which
+/// that one has filled all that it owns; each mark is 1 at least. Contracts see both as a pair.
 #[derive(Debug, Drop)]
 pub struct Vector {
     epochs: Epochs,
-    marks: [Lid; 16],
+    marks: [Lid; MEMBERS],
 }
 
 impl Model for Vector {
@@ -44,14 +50,14 @@ impl Vector {
     {
         Vector {
             epochs,
-            marks: [1; 16],
+            marks: [1; MEMBERS],
         }
     }
 
-    /// Takes the longer list, and then the greater mark of maintainer m.
+    /// Takes the longer list, and then the greater mark of maintainer m. After `NoMemory` the vector is as before.
     pub fn own(&mut self, epochs: &Epochs, m: u32, mark: Lid) -> Result<(), NoMemory>
         requires prefix { IsPrefix self.old.epochs epochs.now ⊎ IsPrefix epochs.now self.old.epochs }
-        requires member { m < 16 }
+        requires member { m < MEMBERS }
         ensures ok { OnOk result (self.new ≡ with_own self.old epochs.now m mark) }
         ensures err { OnErr result (self.new ≡ self.old) }
 
@@ -65,7 +71,7 @@ impl Vector {
     }
 
     /// The mark of each maintainer.
-    pub fn marks(&self) -> &[Lid; 16]
+    pub fn marks(&self) -> &[Lid; MEMBERS]
         ensures { result.now ≡ self.now.marks }
     {
         &self.marks
@@ -82,7 +88,7 @@ impl Vector {
         })
     }
 
-    /// Takes the longer list, and then every greater mark.
+    /// Takes the longer list, and then every greater mark. After `NoMemory` the vector is as before.
     pub fn hear(&mut self, note: &Note) -> Result<(), NoMemory>
         requires { IsPrefix self.old.epochs note.now.epochs ⊎ IsPrefix note.now.epochs self.old.epochs }
         ensures ok { OnOk result (self.new ≡ joined self.old (pair_of note.now)) }
@@ -110,7 +116,7 @@ impl Vector {
 }
 
 // Each mark becomes the greater of the two.
-fn raise_all(marks: &mut [Lid; 16], told: &[Lid; 16])
+fn raise_all(marks: &mut [Lid; MEMBERS], told: &[Lid; MEMBERS])
     ensures { marks.new ≡ greater marks.old told.now }
 {
     for at in 0..marks.len() {

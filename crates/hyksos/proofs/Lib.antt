@@ -1,1 +1,2 @@
+-- What the turns of sessions stand on.
 pub mod Looks

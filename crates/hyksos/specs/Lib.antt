@@ -1,3 +1,4 @@
+-- Definitions of sessions, of shelves, and of a turn.
 pub mod Sessions
 pub mod Shelves
 pub mod Turns

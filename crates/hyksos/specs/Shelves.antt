@@ -10,6 +10,7 @@ use Rattle.causal_deps.specs.declared.answers.Shown.TheVariants.{Filled, Gone, E
 use Rattle.causal_deps.specs.declared.record.Place.{Place}
 use Rattle.causal_deps.specs.declared.record.Record.{Record}
 use Rattle.abstract_log.specs.Answers.{last_of, newest, places_with}
+use Rattle.cz_base.specs.declared.limits.TheConstants.{MEMBERS, SESSIONS}
 
 -- its head, the collected positions, the collection floor, how far each indexer covers the log, and the pin of each session
 pub record ShelfState : Type 0 where
@@ -19,11 +20,11 @@ pub record ShelfState : Type 0 where
   pub covered : List ℕ
   pub pins : List (Option ℕ)
 
--- 1 to 16 indexers, and 64 sessions
+-- there is an indexer at least, and no more than there may be, and a place for the pin of each session that there may be
 pub record IsShelf (m : ShelfState) : Type 0 where
   pub some : 1 ≤ length m.covered
-  pub few : length m.covered ≤ 16
-  pub pins : length m.pins ≡ 64
+  pub few : length m.covered ≤ MEMBERS
+  pub pins : length m.pins ≡ SESSIONS
 
 -- how far the indexer covers the log at which a key or tag has its home
 abbrev pub covered_for : ShelfState → List ℕ → ℕ

@@ -10,7 +10,7 @@ use abstract_log::{Found, ReadAnswer};
 use causal_deps::{LastFault, Newest, Place, Record, Shown};
 use cz_base::{Lid, Name, NoMemory, Seq};
 
-// What a look-up sees at a pinned position.
+/// What a look-up sees at a pinned position.
 #[derive(Debug, Drop)]
 pub(crate) enum Seen {
     // The indexer covers the log only up to there.
@@ -21,7 +21,7 @@ pub(crate) enum Seen {
     Places(Seq<Place>),
 }
 
-// The newest value of a key at a pinned position.
+/// The newest value of a key at a pinned position.
 pub(crate) fn look_up<V: Shelf>(shelf: &V, key: &Name, s: Lid) -> Result<Seen, NoMemory>
     requires log { (log : List RecordValue) × V.shows shelf.now log }
     requires pin { (n : ℕ) × (pin_of (V.held shelf.now) n ≡ Some s) }
@@ -38,7 +38,7 @@ pub(crate) fn look_up<V: Shelf>(shelf: &V, key: &Name, s: Lid) -> Result<Seen, N
     }
 }
 
-// The places of the last records with a tag at a position.
+/// The places of the last records with a tag at a position.
 pub(crate) fn list<V: Shelf>(shelf: &V, tag: &Name, count: u32, s: Lid) -> Result<Seen, NoMemory>
     requires { (log : List RecordValue) × V.shows shelf.now log }
     ensures { (log : List RecordValue) → V.shows shelf.now log → IfOk result (λ seen. seen ≡ tag_seen log (V.held shelf.now) tag.now count s) }
@@ -50,7 +50,7 @@ pub(crate) fn list<V: Shelf>(shelf: &V, tag: &Name, count: u32, s: Lid) -> Resul
     }
 }
 
-// What stands at a position, seen at the head.
+/// What stands at a position, seen at the head.
 pub(crate) fn read<V: Shelf>(shelf: &V, lid: Lid, head: Lid) -> Result<ReadAnswer, NoMemory>
     requires first { 1 ≤ lid }
     requires log { (log : List RecordValue) × V.shows shelf.now log }

@@ -1,3 +1,5 @@
+//! What a turn of a session tells.
+
 use abstract_log::Answer;
 use causal_deps::Draft;
 use cz_base::Lid;
@@ -7,6 +9,7 @@ use cz_base::Lid;
 pub struct Turned {
     /// The number of the command that it began, if it began one.
     pub opened: Option<u32>,
+    /// How far the session is after it.
     pub next: Next,
 }
 

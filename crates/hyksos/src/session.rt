@@ -1,11 +1,12 @@
+//! Sessions: their commands, and how far they are with them.
+
 ghost use Rattle.std.specs.Prelude.{◌≡◌, ◌<◌, ◌≤◌, ◌+◌, ◌^◌, ℕ, true, is_some, length, replicate, All};
 ghost use Rattle.abstract_log.specs.Fits.{FitsCommand};
 ghost use Rattle.abstract_log.specs.Worlds.{first_standing};
 ghost use Rattle.hyksos.specs.Sessions.{AreCommands, acked, is_unanswered, session_at, writes};
+ghost use Rattle.cz_base.specs.declared.limits.TheConstants.{DATACENTRES};
 
-use crate::commands::is_write;
-use crate::past::raise_place;
-use abstract_log::{Command, Found, Standing};
+use abstract_log::{Command, Found, Standing, raise_place};
 use causal_deps::{Counts, Place};
 use cz_base::{Lid, Seq};
 use std::alloc::Global;
@@ -34,7 +35,7 @@ impl Model for Session {
 impl Session {
     /// A session that has begun nothing, at one of so many datacentres.
     pub fn new(alloc: Global, number: u32, dcs: u32, commands: Seq<Command>) -> Self
-        requires dcs { (1 ≤ dcs) × (dcs ≤ 8) }
+        requires dcs { (1 ≤ dcs) × (dcs ≤ DATACENTRES) }
         requires commands { AreCommands commands }
         ensures { result ≡ session_at number commands (first_standing dcs) }
     {
@@ -72,7 +73,7 @@ impl Session {
         }
     }
 
-    /// Its number.
+    /// Its number, from 0.
     pub fn number(&self) -> u32
         ensures value { result ≡ self.now.number }
         ensures commands { AreCommands self.now.commands }
@@ -99,12 +100,13 @@ impl Session {
         ensures { result ≡ writes self.now }
     {
         match self.next() {
-            Some(command) => is_write(command),
+            Some(command) => command.is_write(),
             None => false,
         }
     }
 
-    /// The write that is open got its place: it is answered, and the session knows of its record.
+    /// The write that is open got its place: it is answered, and the session knows of its record. It asks only that
+    /// one command more can be counted, which is so wherever a write is open.
     pub fn ack(&mut self, place: &Place)
         requires { self.old.standing.answered + 1 < 2 ^ 32 }
         ensures { self.new ≡ acked place.now self.old }

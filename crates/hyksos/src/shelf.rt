@@ -1,8 +1,11 @@
+//! Shelves: what a session reads through.
+
 ghost use Rattle.std.specs.Prelude.{◌≡◌, ◌≢◌, ◌↔◌, ◌<◌, ◌≤◌, ℕ, List, Some, None, IfOk, IsErrOf, IsSome, Contains, length};
 ghost use Rattle.causal_deps.specs.declared.answers.Newest.TheVariants.{Found};
 ghost use Rattle.causal_deps.specs.declared.record.Record.{Record as RecordValue};
 ghost use Rattle.causal_deps.specs.Logs.{record_at};
 ghost use Rattle.hyksos.specs.Shelves.{IsShelf, ShelfState, covered_for, last_at, newest_told, pin_of, pin_told, pinned, record_shown, with_pin};
+ghost use Rattle.cz_base.specs.declared.limits.TheConstants.{SESSIONS};
 
 use causal_deps::{LastFault, Newest, Pin, Place, Record, Shown};
 use cz_base::{Lid, Name, Seq};
@@ -42,7 +45,7 @@ pub trait Shelf {
 
     /// Pins a position for a session that has none, unless it is below the collection floor.
     fn pin(&mut self, session: u32, s: Lid) -> Pin
-        requires session { session < 64 }
+        requires session { session < SESSIONS }
         requires none { pin_of (held self.old) session ≡ None }
         ensures answer { result ≡ pin_told (held self.old) s }
         ensures held { held self.new ≡ pinned session s (held self.old) }
@@ -50,12 +53,12 @@ pub trait Shelf {
 
     /// The session's pin is given back.
     fn unpin(&mut self, session: u32)
-        requires session { session < 64 }
+        requires session { session < SESSIONS }
         requires there { IsSome (pin_of (held self.old) session) }
         ensures held { held self.new ≡ with_pin session None (held self.old) }
         ensures log { (log : List RecordValue) → shows self.old log → shows self.new log };
 
-    /// There are 1 to 16 indexers and 64 sessions.
+    /// There is an indexer at least, and no more indexers or sessions than there may be.
     ghost sized: { (shelf : Self) → IsShelf (held shelf) };
 
     /// The head is no further than the log.

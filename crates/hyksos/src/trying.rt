@@ -6,11 +6,11 @@ ghost use Rattle.hyksos.specs.Looking.{sight};
 ghost use Rattle.hyksos.specs.Sessions.{AreCommands, HasFound, IsFoundAt, begun, is_look, next_command, next_index, next_keys, reading, replied, with_found};
 ghost use Rattle.hyksos.specs.Shelves.{pin_of, with_pin};
 ghost use Rattle.hyksos.specs.Turns.{IsTaken, IsWritten, look, look_turn, opened, read_turn, reply, found_at_pin, turn_of, turned, wait, write_turn};
+ghost use Rattle.cz_base.specs.declared.limits.TheConstants.{SESSIONS};
 
 use crate::looking::{Seen, list, look_up, read};
-use crate::past::raise_answer;
 use crate::{Next, Session, Shelf, Turned};
-use abstract_log::{Answer, Command, Found};
+use abstract_log::{Answer, Command, Found, raise_answer};
 use causal_deps::Pin;
 use cz_base::{Lid, NoMemory};
 
@@ -18,7 +18,7 @@ impl Session {
     /// The session begins its next command, or goes on with the one that is open. A refused call changes neither
     /// the session nor what the shelf holds.
     pub fn try_next<V: Shelf>(&mut self, shelf: &mut V) -> Result<Turned, NoMemory>
-        requires number { self.old.number < 64 }
+        requires number { self.old.number < SESSIONS }
         requires log { (log : List RecordValue) × V.shows shelf.old log }
         requires pin { pin_of (V.held shelf.old) self.old.number ≡ self.old.pin }
         ensures turned { (log : List RecordValue) → V.shows shelf.old log → HasFound log self.old → IfOk result (λ t. t ≡ turned log (V.held shelf.old) self.old) }
@@ -34,7 +34,7 @@ impl Session {
 
     // How far the command is after this turn.
     fn go<V: Shelf>(&mut self, shelf: &mut V) -> Result<Next, NoMemory>
-        requires number { self.old.number < 64 }
+        requires number { self.old.number < SESSIONS }
         requires log { (log : List RecordValue) × V.shows shelf.old log }
         requires pin { pin_of (V.held shelf.old) self.old.number ≡ self.old.pin }
         ensures ok { (log : List RecordValue) → V.shows shelf.old log → HasFound log self.old → IfOk result (λ next. IsTaken (turn_of log (V.held shelf.old) self.old) next self.new (V.held shelf.new)) }
@@ -101,7 +101,7 @@ impl Session {
 
     // A look-up goes on at its pin. Without one the head is pinned, unless that is too low.
     fn look<V: Shelf>(&mut self, shelf: &mut V) -> Result<Next, NoMemory>
-        requires number { self.old.number < 64 }
+        requires number { self.old.number < SESSIONS }
         requires log { (log : List RecordValue) × V.shows shelf.old log }
         requires pin { pin_of (V.held shelf.old) self.old.number ≡ self.old.pin }
         requires looks { IsSomeAnd (next_command self.old) (λ c. is_look c ≡ true) }
@@ -130,7 +130,7 @@ impl Session {
 
     // The same at a position that was pinned just now. Where it is refused, the pin is given back.
     fn look_first<V: Shelf>(&mut self, shelf: &mut V, s: Lid) -> Result<Next, NoMemory>
-        requires number { self.old.number < 64 }
+        requires number { self.old.number < SESSIONS }
         requires log { (log : List RecordValue) × V.shows shelf.old log }
         requires pin { pin_of (V.held shelf.old) self.old.number ≡ Some s }
         requires looks { IsSomeAnd (next_command self.old) (λ c. is_look c ≡ true) }
@@ -149,7 +149,7 @@ impl Session {
 
     // A look-up goes on at the pinned position s.
     fn look_at<V: Shelf>(&mut self, shelf: &mut V, s: Lid) -> Result<Next, NoMemory>
-        requires number { self.old.number < 64 }
+        requires number { self.old.number < SESSIONS }
         requires log { (log : List RecordValue) × V.shows shelf.old log }
         requires pin { pin_of (V.held shelf.old) self.old.number ≡ Some s }
         requires looks { IsSomeAnd (next_command self.old) (λ c. is_look c ≡ true) }
@@ -212,7 +212,7 @@ impl Session {
 
     // With what is found now, the command is answered where no key is left.
     fn go_on<V: Shelf>(&mut self, shelf: &mut V, s: Lid) -> Next
-        requires number { self.old.number < 64 }
+        requires number { self.old.number < SESSIONS }
         requires pin { IsSome (pin_of (V.held shelf.old) self.old.number) }
         requires next { IsSome (next_command self.old) }
         ensures taken { (log : List RecordValue) → IsFoundAt log s self.old → IsTaken (found_at_pin log (next_keys self.old) (V.held shelf.old) self.old s self.old.found) result self.new (V.held shelf.new) }
@@ -251,7 +251,7 @@ impl Session {
 
     // The command is answered at the pinned position s, and the pin is given back.
     fn give_back<V: Shelf>(&mut self, shelf: &mut V, s: Lid, answer: Answer) -> Next
-        requires number { self.old.number < 64 }
+        requires number { self.old.number < SESSIONS }
         requires pin { IsSome (pin_of (V.held shelf.old) self.old.number) }
         requires next { IsSome (next_command self.old) }
         ensures taken { IsTaken (reply (V.held shelf.old) self.old s answer) result self.new (V.held shelf.new) }

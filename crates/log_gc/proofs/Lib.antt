@@ -1,1 +1,2 @@
+-- What the floor and its pins stand on.
 pub mod PinLemmas

@@ -4,6 +4,7 @@ use Rattle.causal_deps.specs.declared.record.Record.{Record}
 use Rattle.causal_deps.specs.declared.record.Kind.{Kind}
 use Rattle.causal_deps.specs.declared.record.Kind.TheVariants.{Append, Put}
 use Rattle.awareness_table.specs.Awareness.{IsKnownEverywhere, is_known_everywhere}
+use Rattle.cz_base.specs.declared.limits.TheConstants.{SESSIONS}
 
 -- the collection floor, and what each session reads at, by its number
 pub record Floored : Type 0 where
@@ -16,7 +17,7 @@ pin_of g session = slice_index_or g.pins session None
 
 -- with no pin and nothing collected
 abbrev pub fresh : Floored
-fresh = record { floor = 0; pins = replicate 64 None }
+fresh = record { floor = 0; pins = replicate SESSIONS None }
 
 abbrev pub pinned : Floored → ℕ → ℕ → Floored
 pinned g session s = record g { pins = slice_set g.pins session (Some s) }
@@ -37,9 +38,9 @@ lowest n pins = fold lesser n pins
 abbrev pub raised : Floored → ℕ → ℕ → ℕ → ℕ
 raised g to head covered = max g.floor (lowest (min (min to head) covered) g.pins)
 
--- There are 64 sessions at most, and no pin is below the floor.
+-- There is a place for the pin of each session that there may be, and no pin is below the floor.
 pub record AreHeld (floor : ℕ) (pins : List (Option ℕ)) : Type 0 where
-  pub size : length pins ≡ 64
+  pub size : length pins ≡ SESSIONS
   pub above : (session s : ℕ) → slice_index_or pins session None ≡ Some s → floor ≤ s
 
 -- A record at lid that may go: it is at or below the floor, every datacentre is known to have it, and if it is a put

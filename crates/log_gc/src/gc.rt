@@ -1,18 +1,22 @@
+//! The collection floor, the pins that hold it, and which records may go.
+
 ghost use Rattle.std.specs.Prelude.{◌≡◌, ℕ, ◌<◌, ◌≤◌, ◌↔◌, length, IsSome, IsTrue, None, Some};
 ghost use Rattle.causal_deps.specs.declared.answers.Pin.{Pin};
 ghost use Rattle.log_gc.specs.Floors.{IsCollectable, fresh, is_collectable, lowest, pin_of, pinned, raised, replaced, unpinned};
+ghost use Rattle.cz_base.specs.declared.limits.TheConstants.{SESSIONS};
 
 use awareness_table::Aware;
 use causal_deps::{Kind, Pin, Record};
 use cz_base::Lid;
+use cz_base::limits::SESSIONS;
 use std::marker::Model;
 
-/// The collection floor of a log, and what each session reads it at. Contracts see the floor and, for each of 64
-/// sessions, its pin or none.
+/// The collection floor of a log, and what each session reads it at. Contracts see the floor and, for each
+/// session that there may be, its pin or none.
 #[derive(Debug, Drop)]
 pub struct Gc {
     floor: Lid,
-    pins: [Option<Lid>; 64],
+    pins: [Option<Lid>; SESSIONS],
 }
 
 impl Model for Gc {
@@ -32,13 +36,13 @@ impl Gc {
     {
         Gc {
             floor: 0,
-            pins: [None; 64],
+            pins: [None; SESSIONS],
         }
     }
 
     /// The session reads at s from now on, where s is not below the floor.
     pub fn pin(&mut self, session: u32, s: Lid) -> Pin
-        requires session { session < 64 }
+        requires session { session < SESSIONS }
         requires free { pin_of self.old session ≡ None }
         ensures pinned { (result ≡ Pin.Pinned) ↔ (self.old.floor ≤ s) }
         ensures below { (floor : ℕ) → (result ≡ Pin.BelowFloor floor) ↔ ((floor ≡ self.old.floor) × (s < self.old.floor)) }
@@ -54,7 +58,7 @@ impl Gc {
 
     /// The session gives its pin back.
     pub fn unpin(&mut self, session: u32)
-        requires session { session < 64 }
+        requires session { session < SESSIONS }
         requires held { IsSome (pin_of self.old session) }
         ensures { self.new ≡ unpinned self.old session }
     {
@@ -76,7 +80,7 @@ impl Gc {
     pub fn floor(&self) -> Lid
         ensures value { result ≡ self.now.floor }
         ensures low { (session s : ℕ) → pin_of self.now session ≡ Some s → result ≤ s }
-        ensures size { length self.now.pins ≡ 64 }
+        ensures size { length self.now.pins ≡ SESSIONS }
     {
         self.floor
     }

@@ -1,22 +1,12 @@
 -- The laws of a log go on to hold after events that may happen.
-use Rattle.std.proofs.Common.{◌≡◌, List, [], ◌∷◌, refl, sym, subst, ◌∙◌}
+use Rattle.std.proofs.Common.{List, sym, subst, ◌∙◌}
 use Rattle.abstract_log.specs.declared.event.Event.{Event}
 use Rattle.abstract_log.specs.declared.world.World.{World}
 use Rattle.abstract_log.specs.Fits.{FitsLimits}
-use Rattle.abstract_log.specs.Steps.{CanHappen, after}
 use Rattle.abstract_log.specs.Runs.{CanAllHappen, after_all}
-use Rattle.abstract_log.proofs.ShapesLemmas.{shape_kept}
 use Rattle.log_laws.specs.Lawful.{IsLawful}
 use Rattle.log_laws.proofs.Runs.{kept_by_runs}
-use Rattle.log_laws.proofs.LawsLemmas.{workload-after}
-use Rattle.log_laws.proofs.PendingLemmas.{steady_kept}
-use Rattle.log_laws.proofs.SessionsLemmas.{within_kept}
-use Rattle.log_laws.proofs.TableShapes.{square_kept}
-use Rattle.log_laws.proofs.WrittenLemmas.{written_kept}
-use Rattle.log_laws.proofs.AnsweredLemmas.{answered_kept}
-use Rattle.log_laws.proofs.OnceLemmas.{done_kept, once_kept}
-use Rattle.log_laws.proofs.PresentLemmas.{present_kept}
-use Rattle.log_laws.proofs.LimitedRuns.{IsKept, all_laws}
+use Rattle.log_laws.proofs.LimitedRuns.{IsKept, all_kept, all_laws, workload_stays}
 
 pub kept_of : (w : World) → IsLawful w → IsKept w
 kept_of w h = record {
@@ -35,23 +25,6 @@ kept_of w h = record {
   answered = h.answered;
 }
 
-event_kept : (w : World) (e : Event) → IsKept w → CanHappen w e → IsKept (after w e)
-event_kept w e h can = record {
-  steady = steady_kept w e h.steady can;
-  shape = shape_kept w e h.shape can;
-  square = square_kept w e h.square can;
-  within = within_kept w e h.shape h.steady.lawful.causal h.within can;
-  written = written_kept w e h.shape h.written can;
-  done = done_kept w e h.shape h.done can;
-  once = once_kept w e h.shape h.steady.lawful.causal h.steady.pending h.done h.once can;
-  present = present_kept w e h.shape h.steady.lawful.causal h.present can;
-  answered = answered_kept w e h.shape h.steady.lawful.causal h.steady.pending h.answered can;
-}
-
-pub workload_stays : (w : World) (es : List Event) → (after_all w es).workload ≡ w.workload
-workload_stays w [] = refl
-workload_stays w (e ∷ es) = workload_stays (after w e) es ∙ workload-after w e
-
 pub lawful_after : (w : World) (es : List Event) → IsLawful w → CanAllHappen w es → IsLawful (after_all w es)
 lawful_after w es h can =
-    all_laws (after_all w es) (kept_by_runs IsKept event_kept w es (kept_of w h) can) (subst FitsLimits (sym (workload_stays w es)) h.limits)
+    all_laws (after_all w es) (kept_by_runs IsKept all_kept w es (kept_of w h) can) (subst FitsLimits (sym (workload_stays w es)) h.limits)

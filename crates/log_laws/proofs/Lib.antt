@@ -1,3 +1,4 @@
+-- The laws, each kept by every event that may happen, and joined over runs.
 pub mod Runs
 pub mod Growth
 pub mod LawsLemmas

@@ -1,8 +1,10 @@
--- The laws that take the shape of the workload, and those that take its limits, at every run.
+-- The laws that take the shape of the workload, and those that take its limits, at every run. What events keep is one
+-- record, `IsKept`; `laws_of_run` is the theorem.
 use Rattle.std.proofs.Common.{◌≡◌, ℕ, ◌<◌, ◌≤◌, ◌==◌, Bool, true, false, cond, List, [], ◌∷◌, length, take, refl, ap, sym, subst, ◌∙◌, inl, inr, arith, All, Contains}
 use Rattle.std.proofs.lemmas.Bool.{cases_lt}
 use Rattle.std.proofs.lemmas.List.{get_or_past}
 use Rattle.std.proofs.lemmas.List.Sums.{length-filter, count_by-le-length}
+use Rattle.cz_base.specs.declared.limits.TheConstants.{COMMANDS}
 use Rattle.causal_deps.specs.declared.record.Record.{Record}
 use Rattle.causal_deps.specs.Logs.{is_of, count_of, HasName}
 use Rattle.abstract_log.specs.declared.command.Command.TheVariants.{Read}
@@ -59,7 +61,8 @@ kept_at_start load fits = record {
   answered = none_answered load;
 }
 
-all_kept : (w : World) (e : Event) → IsKept w → CanHappen w e → IsKept (after w e)
+-- an event that may happen keeps all of it
+pub all_kept : (w : World) (e : Event) → IsKept w → CanHappen w e → IsKept (after w e)
 all_kept w e h can = record {
   steady = steady_kept w e h.steady can;
   shape = shape_kept w e h.shape can;
@@ -75,7 +78,8 @@ all_kept w e h can = record {
 pub kept : (load : Workload) (events : List Event) → FitsWorkload load → IsRun load events → IsKept (world_of load events)
 kept load events fits run = kept_by_runs IsKept all_kept (start load) events (kept_at_start load fits) run
 
-workload_stays : (w : World) (es : List Event) → (after_all w es).workload ≡ w.workload
+-- no event changes the workload
+pub workload_stays : (w : World) (es : List Event) → (after_all w es).workload ≡ w.workload
 workload_stays w [] = refl
 workload_stays w (e ∷ es) = workload_stays (after w e) es ∙ workload-after w e
 
@@ -145,10 +149,10 @@ module _ (w : World) (h : IsKept w) where
       }
 
   module _ (limits : FitsLimits w.workload) where
-    few_positions : (d : ℕ) → length (log_of w d) ≤ 16384
+    few_positions : (d : ℕ) → length (log_of w d) ≤ COMMANDS
     few_positions d = omega (arith, positions_few d, writes_are_commands w.workload.sessions, limits.commands)
 
-    few_numbers : (d g : ℕ) → count_of (log_of w d) g ≤ 16384
+    few_numbers : (d g : ℕ) → count_of (log_of w d) g ≤ COMMANDS
     few_numbers d g = omega (arith, host_count d g, few_positions d)
 
     pub valid_logs : (d : ℕ) → All (IsValid w.workload.dcs) (log_of w d)

@@ -4,6 +4,7 @@ use Rattle.std.proofs.lemmas.Bool.{cases_eq, cases_lt}
 use Rattle.std.proofs.lemmas.Option.{same_Some, slice_get_within}
 use Rattle.std.proofs.lemmas.List.{get_or-set_same, get_or_default, get_or_past}
 use Rattle.std.proofs.lemmas.List.Elements.{All-nil, All-cons, All-get_or}
+use Rattle.cz_base.specs.declared.limits.TheConstants.{COMMANDS, TAGS}
 use Rattle.cz_base.specs.Text.{IsName, IsBody}
 use Rattle.causal_deps.specs.declared.record.Record.{Record}
 use Rattle.causal_deps.specs.declared.record.Draft.{Draft}
@@ -22,22 +23,22 @@ use Rattle.log_laws.proofs.Places.{All-at_place}
 use Rattle.log_laws.proofs.WriteCounts.{commands_are_counted}
 
 -- the kind, tags and body of a write within the limits
-pub record HasRanges (kind : Kind) (tags : List (List ℕ)) (body : List ℕ) : Type 0 where
+pub record IsInRanges (kind : Kind) (tags : List (List ℕ)) (body : List ℕ) : Type 0 where
   pub key : kind ≡ PutKind → (name : List ℕ) × (tags ≡ name ∷ [])
-  pub few : length tags ≤ 8
+  pub few : length tags ≤ TAGS
   pub names : All IsName tags
   pub body_fits : IsBody body
 
 no_put : AppendKind ≡ PutKind → ⊥
 no_put is = cc
 
-draft_ranges : (s k : ℕ) (past : List ℕ) (c : Command) (draft : Draft) → draft_of s k past c ≡ Some draft → FitsCommand c → HasRanges draft.kind draft.tags draft.body
+draft_ranges : (s k : ℕ) (past : List ℕ) (c : Command) (draft : Draft) → draft_of s k past c ≡ Some draft → FitsCommand c → IsInRanges draft.kind draft.tags draft.body
 draft_ranges s k past (Append tags body) draft is fits =
-    let P : Draft → Type 0 = λ x. HasRanges x.kind x.tags x.body in
+    let P : Draft → Type 0 = λ x. IsInRanges x.kind x.tags x.body in
     subst P (same_Some (record { session = s; index = k; kind = AppendKind; tags = tags; body = body; dep = past }) draft is)
     (record { key = λ put. absurd (no_put put); few = fits.0; names = fits.1.0; body_fits = fits.1.1 })
 draft_ranges s k past (Put key body) draft is fits =
-    let P : Draft → Type 0 = λ x. HasRanges x.kind x.tags x.body in
+    let P : Draft → Type 0 = λ x. IsInRanges x.kind x.tags x.body in
     subst P (same_Some (record { session = s; index = k; kind = PutKind; tags = key ∷ []; body = body; dep = past }) draft is)
     (record { key = λ _. (key, refl); few = omega arith; names = All-cons IsName key [] fits.0 (All-nil IsName); body_fits = fits.1 })
 draft_ranges s k past (Get key) draft is fits = cc
@@ -55,9 +56,9 @@ command_fits load s k c limits is = elim (cases_lt s (length load.sessions)) [
     nothing_there : slice_get no_plan.commands k ≡ Some c → ⊥
     nothing_there h = cc
 
-pub written_ranges : (load : Workload) (r : Record) → FitsLimits load → IsWritten load r → HasRanges r.kind r.tags r.body
+pub written_ranges : (load : Workload) (r : Record) → FitsLimits load → IsWritten load r → IsInRanges r.kind r.tags r.body
 written_ranges load r limits h =
-    let P : Record → Type 0 = λ x. HasRanges x.kind x.tags x.body in
+    let P : Record → Type 0 = λ x. IsInRanges x.kind x.tags x.body in
     subst P (sym h.sealing) (draft_ranges r.session r.index h.draft.dep h.command h.draft h.drafted (command_fits load r.session (r.index - 1) h.command limits h.is))
 
 -- what the record depends on of its own host are all records before it
@@ -74,7 +75,7 @@ dep_small r counts n ready own few g = elim (cases_eq g r.host) [
 ]
 
 pub valid_record : (load : Workload) (r : Record) (counts : ℕ → ℕ) → FitsLimits load → IsWritten load r → r.host < load.dcs → length r.dep ≡ load.dcs
-    → IsReadyBy counts r → r.toid ≤ 16384 → ((g : ℕ) → counts g ≤ 16384) → IsValid load.dcs r
+    → IsReadyBy counts r → r.toid ≤ COMMANDS → ((g : ℕ) → counts g ≤ COMMANDS) → IsValid load.dcs r
 valid_record load r counts limits h host size ready small few =
     let ranges = written_ranges load r limits h in
     let own : slice_index r.dep r.host ≡ r.toid - 1 = own_entry load r h (omega (arith, host, size)) in
@@ -87,7 +88,7 @@ valid_record load r counts limits h host size ready small few =
       index_first = h.first;
       index = omega (arith, at, commands_are_counted load.sessions r.session no_plan h.there, limits.commands);
       size = size;
-      dep = λ k d within. omega (arith, get_or_default r.dep k d 0 within, dep_small r counts 16384 ready own few k);
+      dep = λ k d within. omega (arith, get_or_default r.dep k d 0 within, dep_small r counts COMMANDS ready own few k);
       before = own;
       key = ranges.key;
       tags = ranges.few;

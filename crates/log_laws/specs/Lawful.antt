@@ -1,5 +1,6 @@
 -- All laws that hold of the world that a run leaves, where the workload is within the limits.
 use Rattle.std.specs.Prelude.{◌≡◌, ◌≢◌, ℕ, ◌+◌, ◌<◌, ◌≤◌, true, List, length, Some, All, Contains, slice_get}
+use Rattle.cz_base.specs.declared.limits.TheConstants.{COMMANDS}
 use Rattle.causal_deps.specs.declared.record.Record.{Record}
 use Rattle.causal_deps.specs.Counts.{AreCovered, IsSquare, entry_of}
 use Rattle.causal_deps.specs.Logs.{HasName, IsCausal, count_of, record_at}
@@ -84,11 +85,11 @@ pub record IsLawful (w : World) : Type 0 where
   pub once : IsOneForEachCommand w
   pub answered : AreWritesAnswered w
   pub numbers : (d h : ℕ) → count_of (log_of w d) h ≤ writes_at w.workload.sessions h
-  pub few : (d : ℕ) → length (log_of w d) ≤ 16384
+  pub few : (d : ℕ) → length (log_of w d) ≤ COMMANDS
   pub tables : (g k h : ℕ) → entry_of (table_of w g) k h ≤ entry_of (table_of w k) k h
   pub own_rows : (k h : ℕ) → entry_of (table_of w k) k h ≤ count_of (log_of w k) h
   pub square : AreTablesSquare w
-  pub entries : (g k h : ℕ) → entry_of (table_of w g) k h ≤ 16384
+  pub entries : (g k h : ℕ) → entry_of (table_of w g) k h ≤ COMMANDS
   pub gone : IsGoneHeldByAll w
   pub positions : IsGoneOfLog w
   pub awaited : (d h t : ℕ) → Contains (pending_of w d) (h, t) → IsAwaited w d h t

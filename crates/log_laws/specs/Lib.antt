@@ -1,3 +1,4 @@
+-- The laws of runs, and the words that they are told in.
 pub mod Laws
 pub mod Writes
 pub mod Records

@@ -1,5 +1,6 @@
 -- What every record of a log has: which command it was written by, and the ranges of its wire form.
-use Rattle.std.specs.Prelude.{◌≡◌, ℕ, ◌-◌, ◌^◌, ◌<◌, ◌≤◌, List, [], ◌∷◌, length, Some, All, slice_get, slice_index}
+use Rattle.std.specs.Prelude.{◌≡◌, ℕ, ◌-◌, ◌<◌, ◌≤◌, List, [], ◌∷◌, length, Some, All, slice_get, slice_index}
+use Rattle.cz_base.specs.declared.limits.TheConstants.{COMMANDS, NUMBERS_END, SESSIONS, TAGS}
 use Rattle.cz_base.specs.Text.{IsName, IsBody}
 use Rattle.causal_deps.specs.declared.record.Record.{Record}
 use Rattle.causal_deps.specs.declared.record.Draft.{Draft}
@@ -25,14 +26,14 @@ pub record IsWritten (load : Workload) (r : Record) : Type 0 where
 pub record IsValid (dcs : ℕ) (r : Record) : Type 0 where
   pub host : r.host < dcs
   pub first : 1 ≤ r.toid
-  pub small : r.toid < 2 ^ 48
-  pub session : r.session < 64
+  pub small : r.toid < NUMBERS_END
+  pub session : r.session < SESSIONS
   pub index_first : 1 ≤ r.index
-  pub index : r.index ≤ 16384
+  pub index : r.index ≤ COMMANDS
   pub size : length r.dep ≡ dcs
-  pub dep : All (λ n. n < 2 ^ 48) r.dep
+  pub dep : All (λ n. n < NUMBERS_END) r.dep
   pub before : slice_index r.dep r.host ≡ r.toid - 1
   pub key : r.kind ≡ PutKind → (name : List ℕ) × (r.tags ≡ name ∷ [])
-  pub tags : length r.tags ≤ 8
+  pub tags : length r.tags ≤ TAGS
   pub names : All IsName r.tags
   pub body : IsBody r.body

@@ -1,1 +1,3 @@
+-- What the laws of links stand on.
 pub mod Carried
+pub mod Full

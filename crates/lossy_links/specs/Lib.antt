@@ -1,1 +1,2 @@
+-- Definitions of links.
 pub mod Links

@@ -1,8 +1,9 @@
--- What a link holds: a list of at most 64 messages, the oldest first. Messages may be bytes or values.
-use Rattle.std.specs.Prelude.{ℕ, zero, suc, if◌then◌else◌, nat_lt, List, [], ◌∷◌, ◌++◌, length, drop, remove, slice_get, Option, None}
+-- What a link holds: a list of messages, at most as many as `PACKETS` says, the oldest first. Messages may be bytes or values.
+use Rattle.std.specs.Prelude.{◌≡◌, ℕ, zero, suc, if◌then◌else◌, nat_lt, List, [], ◌∷◌, ◌++◌, length, drop, remove, slice_get, Option, None, All}
 use Rattle.std.specs.Option.{option_map_or}
 use Rattle.lossy_links.specs.declared.link.Copied.{Copied}
 use Rattle.lossy_links.specs.declared.link.Copied.TheVariants.{Absent, Done, Overflow}
+use Rattle.cz_base.specs.declared.limits.TheConstants.{PACKETS}
 
 -- message k, where message 1 is the oldest
 abbrev pub message_at : {A : Type 0} → List A → ℕ → Option A
@@ -14,13 +15,18 @@ abbrev pub without : {A : Type 0} → List A → ℕ → List A
 without ms zero = ms
 without ms (suc k) = remove ms k
 
--- a message goes last; of 65 the oldest is lost
+-- a message goes last; where the link is full, the oldest is lost
 abbrev pub put_last : {A : Type 0} → List A → A → List A
-put_last ms m = if nat_lt (length ms) 64 then ms ++ m ∷ [] else drop 1 ms ++ m ∷ []
+put_last ms m = if nat_lt (length ms) PACKETS then ms ++ m ∷ [] else drop 1 ms ++ m ∷ []
 
 -- the message that is lost where one more goes last
 abbrev pub lost_by_put : {A : Type 0} → List A → Option A
-lost_by_put ms = if nat_lt (length ms) 64 then None else slice_get ms 0
+lost_by_put ms = if nat_lt (length ms) PACKETS then None else slice_get ms 0
+
+-- the link is full, and each of its messages is this one
+pub record IsFullOf {A : Type 0} (m : A) (ms : List A) : Type 0 where
+  pub full : length ms ≡ PACKETS
+  pub each : All (λ x. x ≡ m) ms
 
 -- message k goes last once more
 abbrev pub copied : {A : Type 0} → List A → ℕ → List A

@@ -1,8 +1,12 @@
-ghost use Rattle.std.specs.Prelude.{◌≡◌, ◌≤◌, ◌↔◌, [], length, None, Ok, IsSome, IsNone, IsTrue, IfOk, OnOk, OnErr};
-ghost use Rattle.lossy_links.specs.Links.{message_at, without, put_last, lost_by_put, copied, answer_to_copy};
+//! A link: the packets that are under way, and what each call does to their list.
+
+ghost use Rattle.std.specs.Prelude.{◌≡◌, ◌≤◌, ◌↔◌, [], length, All, None, Ok, IsSome, IsNone, IsTrue, IfOk, OnOk, OnErr};
+ghost use Rattle.lossy_links.specs.Links.{IsFullOf, message_at, without, put_last, lost_by_put, copied, answer_to_copy};
+ghost use Rattle.cz_base.specs.declared.limits.TheConstants.{PACKETS};
 
 use crate::Packet;
 use cz_base::NoMemory;
+use cz_base::limits::PACKETS;
 use std::alloc::Global;
 use std::marker::Model;
 
@@ -17,14 +21,15 @@ pub enum Copied {
     Overflow(Packet),
 }
 
-/// The packets on their way from one datacentre to another, at most 64. Contracts see the list of them;
-/// packet 1 is the oldest.
+/// The packets on their way from one datacentre to another, at most [`PACKETS`]. Contracts see the list of
+/// them; packet 1 is the oldest.
 #[derive(Debug, Drop)]
 pub struct Link {
     packets: Vec<Packet>,
 }
 
 impl Model for Link {
+    ghost use Rattle.cz_base.specs.declared.limits.TheConstants.{PACKETS};
     ghost use Rattle.std.specs.Prelude.{◌≡◌, ◌≤◌, List, ℕ};
     ghost use Rattle.std.specs.Vec.{vec_len, vec_capacity};
 
@@ -32,26 +37,23 @@ impl Model for Link {
 
     ghost view = { λ link. link.packets.items };
 
-    ghost invariant = { λ link. (vec_capacity link.packets ≡ 64) × (vec_len link.packets ≤ 64) };
+    ghost invariant = { λ link. (vec_capacity link.packets ≡ PACKETS) × (vec_len link.packets ≤ PACKETS) };
 }
 
 impl Link {
-    /// How many packets a link holds at most.
-    pub const ROOM: usize = 64;
-
     /// A link with no packet. It has room for all that it will ever hold.
     pub fn new(alloc: Global) -> Result<Self, NoMemory>
         ensures { IfOk result (λ link. link ≡ []) }
     {
         Ok(Link {
-            packets: Vec::with_capacity(alloc, Self::ROOM)?,
+            packets: Vec::with_capacity(alloc, PACKETS)?,
         })
     }
 
-    /// How many packets are on their way: 0 to 64.
+    /// How many packets are on their way: 0 to [`PACKETS`].
     pub fn len(&self) -> usize
         ensures value { result ≡ length self.now }
-        ensures within { length self.now ≤ 64 }
+        ensures within { length self.now ≤ PACKETS }
     {
         self.packets.len()
     }
@@ -63,19 +65,41 @@ impl Link {
         self.packets.is_empty()
     }
 
-    /// The packet goes last. Where 64 were held, the oldest is handed back. No memory is taken.
+    /// The packet goes last. Where the link was full, the oldest is handed back. No memory is taken.
     pub fn put(&mut self, packet: Packet) -> Option<Packet>
         ensures after { self.new ≡ put_last self.old packet }
-        ensures full { IsSome result ↔ (length self.old ≡ 64) }
+        ensures full { IsSome result ↔ (length self.old ≡ PACKETS) }
         ensures oldest { result ≡ lost_by_put self.old }
     {
-        if self.packets.len() < Self::ROOM {
+        if self.packets.len() < PACKETS {
             self.packets.push_reserved(packet);
             return None;
         }
         let oldest = self.packets.remove(0);
         self.packets.push_reserved(packet);
         Some(oldest)
+    }
+
+    /// Whether the packet would leave the link as it is, were it put: the link is full, and each of its packets has the
+    /// same bytes. They are compared only where the link is full. No memory is taken.
+    pub fn is_full_of(&self, packet: &Packet) -> bool
+        ensures stays { IsTrue result ↔ (put_last self.now packet.now ≡ self.now) }
+        ensures value { IsTrue result ↔ IsFullOf packet.now self.now }
+        ensures within { length self.now ≤ PACKETS }
+    {
+        self.packets.len() == PACKETS && are_all(&self.packets, packet)
+    }
+
+    /// Whether a copy of packet k would leave the link as it is: there is no packet k, or the link is full of packets with its
+    /// bytes. No memory is taken.
+    pub fn is_kept_by_copy(&self, k: u32) -> bool
+        ensures { IsTrue result ↔ (copied self.now k ≡ self.now) }
+    {
+        let k = k as usize;
+        if k == 0 || self.packets.len() < k {
+            return true;
+        }
+        self.is_full_of(&self.packets[k - 1])
     }
 
     /// Takes packet k out, or answers `None` exactly where there is none. No memory is taken.
@@ -117,4 +141,11 @@ impl Link {
             None => Ok(Copied::Done),
         }
     }
+}
+
+// Whether each of the packets has the bytes of this one.
+fn are_all(packets: &[Packet], packet: &Packet) -> bool
+    ensures { IsTrue result ↔ All (λ bytes. bytes ≡ packet.now) packets.now }
+{
+    packets.iter().all(|held| held == packet)
 }

@@ -1,3 +1,4 @@
+-- What calls and laws of maintainers stand on: slots and positions, counts, marks, and each change.
 pub mod MarkLemmas
 pub mod Rising
 pub mod SlotLemmas

@@ -1,5 +1,5 @@
 -- Maintainers: each keeps the values at the positions that it owns.
-use Rattle.std.specs.Prelude.{◌≡◌, ℕ, zero, suc, ◌+◌, ◌-◌, ◌^◌, ◌<◌, ◌≤◌, ◌==◌, ◌&&◌, max, not, Bool, if◌then◌else◌, nat_lt, nat_le, List, [], ◌∷◌, length, filter, find, Option, Some, None, slice_get, slice_index_or, count_by, fold, All, refl}
+use Rattle.std.specs.Prelude.{◌≡◌, ℕ, zero, suc, ◌+◌, ◌-◌, ◌<◌, ◌≤◌, ◌==◌, ◌&&◌, max, not, Bool, if◌then◌else◌, nat_lt, nat_le, List, [], ◌∷◌, length, filter, find, Option, Some, None, slice_get, slice_index_or, count_by, fold, All, refl}
 use Rattle.std.specs.List.{list_any}
 use Rattle.std.specs.Coded.{Coded, code_by, coded×, coded_ℕ, coded_list}
 use Rattle.flstore_rounds.specs.declared.epochs.Epoch.{Epoch}
@@ -8,6 +8,7 @@ use Rattle.causal_deps.specs.declared.answers.Shown.{Shown}
 use Rattle.causal_deps.specs.declared.answers.Shown.TheVariants.{Filled, Gone, Empty}
 use Rattle.maintainer.specs.declared.slot.Slot.{Slot}
 use Rattle.maintainer.specs.Marks.{IsMarkOf}
+use Rattle.cz_base.specs.declared.limits.TheConstants.{NUMBERS_END}
 
 -- What contracts see of a maintainer: its number, its epoch list, its values by rising position, the positions of
 -- which the value was let go, rising too, and how many more values fit with no allocation.
@@ -92,6 +93,12 @@ module _ {T : Type 0} where
   abbrev pub entry_after : ℕ → List (Slot T) → Option (Slot T)
   entry_after p es = find (λ e. nat_lt p e.lid) es
 
+  -- next is the least position above p at which a value stands
+  pub record IsNextFilled (p : ℕ) (es : List (Slot T)) (next : ℕ) : Type 0 where
+    pub past : p < next
+    pub there : (value : T) × (value_at next es ≡ Some value)
+    pub least : (q : ℕ) (value : T) → p < q → value_at q es ≡ Some value → next ≤ q
+
   -- the value that is shown
   abbrev pub shown_value : Shown T → Option T
   shown_value (Filled value) = Some value.now
@@ -140,12 +147,12 @@ module _ {T : Type 0} where
   pub record AreKept (epochs : EpochList) (number : ℕ) (es : List (Slot T)) : Type 0 where
     pub rising : AreRising es
     pub own : All (λ e. IsOwnedBy epochs number e.lid) es
-    pub small : All (λ e. e.lid < 2 ^ 48) es
+    pub small : All (λ e. e.lid < NUMBERS_END) es
 
   -- positions of which the value was let go: each once, in its range, and with no value
   pub record AreLetGo (es : List (Slot T)) (gone : List ℕ) : Type 0 where
     pub rising : AreRisingPositions gone
-    pub small : All (λ p. p < 2 ^ 48) gone
+    pub small : All (λ p. p < NUMBERS_END) gone
     pub apart : All (λ p. times_in p es ≡ 0) gone
 
   -- what holds of a maintainer's fields: its slots are such a map, other positions are gone, and its mark is theirs

@@ -1,8 +1,11 @@
-ghost use Rattle.std.specs.Prelude.{◌≡◌, ◌⊎◌, ℕ, ◌^◌, ◌<◌, ◌≤◌, ◌↔◌, Contains, IsSome, OnErr, OnOk, Some};
-ghost use Rattle.std.specs.Option.{option_copied};
+//! A maintainer: the values at the positions that one member owns, and its mark.
+
+ghost use Rattle.std.specs.Prelude.{◌≡◌, ◌⊎◌, ℕ, ◌^◌, ◌<◌, ◌≤◌, ◌↔◌, Contains, IfSome, IsNone, IsSome, None, OnErr, OnOk, Some};
+ghost use Rattle.std.specs.Option.{option_copied, option_map};
 ghost use Rattle.causal_deps.specs.declared.answers.Shown.{Shown};
 ghost use Rattle.flstore_rounds.specs.Epochs.{IsPrefix, IsSettled};
-ghost use Rattle.maintainer.specs.Maintainers.{AreKept, AreRising, IsFilled, IsMark, IsOwn, collected, empty, entry_after, is_some_within, learned, mark_of, placed, shown_value, value_at};
+ghost use Rattle.maintainer.specs.Maintainers.{AreKept, AreRising, IsFilled, IsMark, IsNextFilled, IsOwn, collected, empty, entry_after, is_some_within, learned, mark_of, placed, shown_value, value_at};
+ghost use Rattle.cz_base.specs.declared.limits.TheConstants.{NUMBERS_END};
 
 use crate::Slot;
 use crate::positions::{has_position, has_position_within, positions_below};
@@ -73,7 +76,8 @@ impl<T> Maintainer<T> {
         &self.epochs
     }
 
-    /// Takes the longer of the two epoch lists, of which one is the beginning of the other.
+    /// Takes the longer of the two epoch lists, of which one is the beginning of the other. After `NoMemory` the
+    /// maintainer is as before.
     pub fn learn(&mut self, epochs: &Epochs) -> Result<(), NoMemory>
         requires known { IsPrefix self.old.epochs epochs.now ⊎ IsPrefix epochs.now self.old.epochs }
         requires settled { (p : ℕ) → IsFilled self.old p → IsSettled epochs.now self.old.epochs p }
@@ -83,7 +87,7 @@ impl<T> Maintainer<T> {
         self.epochs.take_longer(epochs)
     }
 
-    /// Makes room for n more values.
+    /// Makes room for n more values. After `NoMemory` the maintainer is as before.
     pub fn reserve(&mut self, n: usize) -> Result<(), NoMemory>
         ensures ok { OnOk result (n ≤ self.new.spare) }
         ensures more { self.old.spare ≤ self.new.spare }
@@ -102,7 +106,7 @@ impl<T> Maintainer<T> {
     /// Puts a value at an own position that is not filled, in one spare place.
     pub fn place(&mut self, lid: Lid, value: T)
         requires own { IsOwn self.old lid }
-        requires small { lid < 2 ^ 48 }
+        requires small { lid < NUMBERS_END }
         requires vacant { ¬ IsFilled self.old lid }
         requires room { 1 ≤ self.old.spare }
         ensures { self.new ≡ placed self.old lid value }
@@ -178,8 +182,20 @@ impl<T> Maintainer<T> {
         &self.slots
     }
 
-    /// The first entry above a position, if there is one. Positions rise along the entries, so no other entry above it
-    /// is nearer.
+    /// The least position above `lid` at which a value stands, or `None` exactly where there is none.
+    pub fn after(&self, lid: Lid) -> Option<Lid>
+        ensures value { result ≡ option_map (λ slot. slot.lid) (entry_after lid self.now.entries) }
+        ensures least { IfSome result (λ next. IsNextFilled lid self.now.entries next) }
+        ensures none { IsNone result → (q : ℕ) → lid < q → value_at q self.now.entries ≡ None }
+    {
+        match self.next_after(lid) {
+            Some(slot) => Some(slot.lid),
+            None => None,
+        }
+    }
+
+    /// The entry at that position, with its value. Positions rise along the entries, so no other entry above `lid` is
+    /// nearer.
     pub fn next_after(&self, lid: Lid) -> Option<&Slot<T>>
         ensures value { option_copied result ≡ entry_after lid self.now.entries }
         ensures rising { AreRising self.now.entries }
@@ -192,7 +208,7 @@ impl<T> Maintainer<T> {
     pub fn filled(&self) -> Lid
         ensures mark { IsMark self.now result }
         ensures value { result ≡ mark_of self.now }
-        ensures within { (1 ≤ result) × (result ≤ 2 ^ 48) }
+        ensures within { (1 ≤ result) × (result ≤ NUMBERS_END) }
     {
         self.mark
     }

@@ -1,3 +1,5 @@
+//! Rising positions: where one stands, and which are in a range.
+
 ghost use Rattle.std.specs.Prelude.{◌≡◌, ◌<◌, ◌≤◌, ◌==◌, length};
 ghost use Rattle.std.specs.List.{AllWithin, list_any};
 ghost use Rattle.maintainer.specs.Maintainers.{AreRisingPositions, is_some_within};

@@ -1,9 +1,12 @@
+//! Slots by rising position, and the mark past those that are filled.
+
 ghost use Rattle.std.specs.Prelude.{◌≡◌, ℕ, ◌^◌, ◌<◌, ◌≤◌, ◌↔◌, length, IsTrue};
 ghost use Rattle.std.specs.List.{AllWithin};
 ghost use Rattle.std.specs.Option.{option_copied};
 ghost use Rattle.flstore_rounds.specs.Epochs.{last_epoch};
 ghost use Rattle.maintainer.specs.Maintainers.{AreRising, AreRisingPositions, IsOwnedBy, IsFilledBy, entry_after, value_at};
 ghost use Rattle.maintainer.specs.Marks.{IsMarkOf, IsReached};
+ghost use Rattle.cz_base.specs.declared.limits.TheConstants.{NUMBERS_END};
 
 use crate::positions::has_position;
 use cz_base::Lid;
@@ -12,6 +15,7 @@ use flstore_rounds::Epochs;
 /// A position and the value that stands there.
 #[derive(Debug, Drop)]
 pub struct Slot<T> {
+    /// The position in the log, from 1.
     pub lid: Lid,
     pub value: T,
 }
@@ -80,8 +84,8 @@ pub(crate) fn mark_past<T>(
     requires member { number < (last_epoch epochs.now).members }
     requires slots { AreRising slots.now }
     requires gone { AreRisingPositions gone.now }
-    requires small { (p : ℕ) → IsFilledBy slots.now gone.now p → p < 2 ^ 48 }
-    requires from { (1 ≤ from) × (from ≤ 2 ^ 48) }
+    requires small { (p : ℕ) → IsFilledBy slots.now gone.now p → p < NUMBERS_END }
+    requires from { (1 ≤ from) × (from ≤ NUMBERS_END) }
     requires reached { IsReached (IsOwnedBy epochs.now number) (IsFilledBy slots.now gone.now) from }
     ensures mark { IsMarkOf (IsOwnedBy epochs.now number) (IsFilledBy slots.now gone.now) result }
 {

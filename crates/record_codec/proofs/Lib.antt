@@ -1,3 +1,4 @@
+-- What the wire form stands on: numbers and texts, parts and how they are joined, fields, records and messages.
 pub mod Shared
 pub mod Numbers
 pub mod Composing

@@ -1,6 +1,7 @@
 -- The fields of a record and a message as parts: which values each may have.
-use Rattle.std.specs.Prelude.{ℕ, ◌-◌, ◌<◌, ◌^◌, ◌==◌, if◌then◌else◌, Option, Some, None, List, All}
+use Rattle.std.specs.Prelude.{ℕ, ◌-◌, ◌<◌, ◌==◌, if◌then◌else◌, Option, Some, None, List, All}
 use Rattle.byteorder.specs.Endian.{big_bytes}
+use Rattle.cz_base.specs.declared.limits.TheConstants.{COMMANDS, NUMBERS_END, SESSIONS}
 use Rattle.cz_base.specs.Text.{IsName}
 use Rattle.causal_deps.specs.declared.record.Kind.{Kind}
 use Rattle.causal_deps.specs.declared.record.Record.{Record}
@@ -20,12 +21,12 @@ least_entry None i = 0
 least_entry (Some own) i = if i == own.host then own.count else 0
 
 abbrev pub greatest_entry : Option Own → ℕ → ℕ
-greatest_entry None i = 2 ^ 48 - 1
-greatest_entry (Some own) i = if i == own.host then own.count else 2 ^ 48 - 1
+greatest_entry None i = NUMBERS_END - 1
+greatest_entry (Some own) i = if i == own.host then own.count else NUMBERS_END - 1
 
 abbrev pub FitsOwn : Option Own → Type 0
 FitsOwn None = Unit {0}
-FitsOwn (Some own) = own.count < 2 ^ 48
+FitsOwn (Some own) = own.count < NUMBERS_END
 
 -- the number may stand at entry i
 pub record IsEntry (own : Option Own) (i n : ℕ) : Type 0 where
@@ -49,9 +50,9 @@ kind_bytes kind = big_bytes 1 (kind_number kind)
 -- the numbers before the dependencies are in their ranges
 pub record IsHead (low high : ℕ) (head : Head) : Type 0 where
   pub host : IsWithin low high head.host
-  pub toid : IsWithin 1 (2 ^ 48 - 1) head.toid
-  pub session : IsWithin 0 63 head.session
-  pub index : IsWithin 1 16384 head.index
+  pub toid : IsWithin 1 (NUMBERS_END - 1) head.toid
+  pub session : IsWithin 0 (SESSIONS - 1) head.session
+  pub index : IsWithin 1 COMMANDS head.index
 
 abbrev pub head_word : ℕ → Head → List ℕ
 head_word dcs head = head_bytes dcs head.host head.toid head.session head.index head.kind

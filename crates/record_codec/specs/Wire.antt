@@ -1,7 +1,8 @@
 -- The wire form: which bytes spell which record or message. Numbers stand with the highest byte first.
-use Rattle.std.specs.Prelude.{◌≡◌, ℕ, ◌-◌, ◌<◌, ◌≤◌, ◌^◌, List, ◌++◌, length, slice_index, All}
+use Rattle.std.specs.Prelude.{◌≡◌, ℕ, ◌-◌, ◌<◌, ◌≤◌, List, ◌++◌, length, slice_index, All}
 use Rattle.std.specs.List.{flat_map}
 use Rattle.byteorder.specs.Endian.{big_bytes}
+use Rattle.cz_base.specs.declared.limits.TheConstants.{COMMANDS, MESSAGE_RECORDS, NUMBERS_END, SESSIONS, TAGS}
 use Rattle.cz_base.specs.Text.{IsName, IsBody}
 use Rattle.causal_deps.specs.Counts.{IsSquare, entry_of}
 use Rattle.causal_deps.specs.declared.record.Kind.{Kind}
@@ -21,7 +22,7 @@ fewest_tags Put = 1
 
 -- the most tags that a record of a kind has
 abbrev pub most_tags : Kind → ℕ
-most_tags Append = 8
+most_tags Append = TAGS
 most_tags Put = 1
 
 -- each count in eight bytes
@@ -67,12 +68,12 @@ message_bytes dcs m =
 pub record FitsRecord (dcs : ℕ) (r : Record) : Type 0 where
   pub host : r.host < dcs
   pub toid_first : 1 ≤ r.toid
-  pub toid : r.toid < 2 ^ 48
-  pub session : r.session < 64
+  pub toid : r.toid < NUMBERS_END
+  pub session : r.session < SESSIONS
   pub index_first : 1 ≤ r.index
-  pub index : r.index ≤ 16384
+  pub index : r.index ≤ COMMANDS
   pub entries : length r.dep ≡ dcs
-  pub dep : All (λ n. n < 2 ^ 48) r.dep
+  pub dep : All (λ n. n < NUMBERS_END) r.dep
   pub own : slice_index r.dep r.host ≡ r.toid - 1
   pub tags_first : fewest_tags r.kind ≤ length r.tags
   pub tags : length r.tags ≤ most_tags r.kind
@@ -81,8 +82,8 @@ pub record FitsRecord (dcs : ℕ) (r : Record) : Type 0 where
 pub record FitsMessage (dcs : ℕ) (m : Message) : Type 0 where
   pub from : m.from < dcs
   pub square : IsSquare dcs m.table
-  pub table : (k h : ℕ) → entry_of m.table k h < 2 ^ 48
-  pub few : length m.records ≤ 16
+  pub table : (k h : ℕ) → entry_of m.table k h < NUMBERS_END
+  pub few : length m.records ≤ MESSAGE_RECORDS
   pub records : All (λ r. FitsRecord dcs r) m.records
   pub senders : All (λ (r : Record). r.host ≡ m.from) m.records
 

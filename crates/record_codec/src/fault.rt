@@ -1,3 +1,5 @@
+//! Why bytes are not decoded.
+
 ghost use Rattle.std.specs.Prelude.{◌≡◌};
 ghost use Rattle.record_codec.specs.declared.fault.DecodeFault.TheVariants.{NoMemory as OutOfMemory};
 
@@ -10,6 +12,7 @@ pub enum DecodeFault {
     /// The bytes are no spelling. The first `at` of them begin one, and no more of them do.
     #[error("malformed at byte {at}")]
     Malformed { at: usize },
+    /// There is no memory for what the bytes spell.
     #[error("no memory")]
     NoMemory,
 }

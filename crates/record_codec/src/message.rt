@@ -1,3 +1,5 @@
+//! Messages: a table and records behind one another.
+
 ghost use Rattle.std.specs.Prelude.{◌≡◌, ◌++◌, ◌<◌, ◌≤◌, All, length, IfOk, IfErr, MatchResult, OnOk};
 ghost use Rattle.std.specs.List.{flat_map};
 ghost use Rattle.record_codec.specs.declared.fault.DecodeFault.TheVariants.{NoMemory as OutOfMemory};
@@ -7,25 +9,28 @@ ghost use Rattle.record_codec.specs.Parts.{IsSized, IsWord};
 ghost use Rattle.record_codec.specs.Reading.{Fails, Took};
 ghost use Rattle.record_codec.specs.Starts.{IsRefused};
 ghost use Rattle.record_codec.specs.Wire.{message_bytes, record_bytes, records_bytes, FitsMessage, FitsRecord, HasTexts, IsMessageText, SpellsMessage};
+ghost use Rattle.cz_base.specs.declared.limits.TheConstants.{DATACENTRES, MESSAGE_RECORDS};
 
 use crate::DecodeFault;
 use crate::reader::Reader;
 use crate::record::{read_record, write_record};
 use crate::writer::Writer;
 use causal_deps::{Record, Table};
+use cz_base::limits::MESSAGE_RECORDS;
 use cz_base::{DcId, NoMemory, Seq};
 use std::alloc::Global;
 
 // The first byte of a message.
 const FORM: u32 = 1;
 
-const MAX_RECORDS: u32 = 16;
-
-/// What one datacentre sends to another: its table, and at most 16 records of its own.
+/// What one datacentre sends to another: its table, and at most [`MESSAGE_RECORDS`] records of its own.
 #[derive(Debug, Drop)]
 pub struct Message {
+    /// The datacentre that sends it.
     pub from: DcId,
+    /// What the sender knows that each datacentre has.
     pub table: Table,
+    /// Records of the sender's own, in order.
     pub records: Seq<Record>,
 }
 
@@ -44,7 +49,7 @@ pub fn encode_message(alloc: Global, message: &Message) -> Result<Vec<u8>, NoMem
 /// `Malformed` comes exactly where they spell none, and NoMemory where memory is refused. No more
 /// memory is taken than the bytes that are there call for, whatever lengths they announce.
 pub fn decode_message(alloc: Global, bytes: &[u8], dcs: u32) -> Result<Message, DecodeFault>
-    requires { (1 ≤ dcs) × (dcs ≤ 8) }
+    requires { (1 ≤ dcs) × (dcs ≤ DATACENTRES) }
     // What is decoded is spelled so.
     ensures ok { IfOk result (λ message. SpellsMessage dcs bytes.now message) }
 
@@ -61,7 +66,7 @@ pub fn decode_message(alloc: Global, bytes: &[u8], dcs: u32) -> Result<Message, 
 }
 
 fn whole_message(alloc: Global, bytes: &[u8], dcs: u32) -> Result<Message, DecodeFault>
-    requires { (1 ≤ dcs) × (dcs ≤ 8) }
+    requires { (1 ≤ dcs) × (dcs ≤ DATACENTRES) }
     ensures ok { IfOk result (λ message. SpellsMessage dcs bytes.now message) }
     ensures refused { IfErr result (IsRefused (IsMessageText dcs) bytes.now) }
 {
@@ -72,7 +77,7 @@ fn whole_message(alloc: Global, bytes: &[u8], dcs: u32) -> Result<Message, Decod
 }
 
 fn read_message(reader: &mut Reader<'_>, dcs: u32) -> Result<Message, DecodeFault>
-    requires { (1 ≤ dcs) × (dcs ≤ 8) }
+    requires { (1 ≤ dcs) × (dcs ≤ DATACENTRES) }
     ensures ok { IfOk result (λ message. IsMessage dcs message) }
     ensures took { IfOk result (λ message. Took reader.old reader.new (message_bytes dcs message)) }
     ensures fault { IfErr result (Fails (IsWord (IsMessage dcs) (message_bytes dcs)) reader.old) }
@@ -91,13 +96,13 @@ fn read_message(reader: &mut Reader<'_>, dcs: u32) -> Result<Message, DecodeFaul
 
 // Reads records of one host behind their number.
 fn read_records(reader: &mut Reader<'_>, dcs: u32, host: DcId) -> Result<Seq<Record>, DecodeFault>
-    requires dcs { (1 ≤ dcs) × (dcs ≤ 8) }
+    requires dcs { (1 ≤ dcs) × (dcs ≤ DATACENTRES) }
     requires host { host < dcs }
-    ensures ok { IfOk result (λ records. IsSized 0 16 length (AreRecords dcs host) records) }
+    ensures ok { IfOk result (λ records. IsSized 0 MESSAGE_RECORDS length (AreRecords dcs host) records) }
     ensures took { IfOk result (λ records. Took reader.old reader.new (records_bytes dcs records)) }
-    ensures fault { IfErr result (Fails (IsWord (IsSized 0 16 length (AreRecords dcs host)) (records_bytes dcs)) reader.old) }
+    ensures fault { IfErr result (Fails (IsWord (IsSized 0 MESSAGE_RECORDS length (AreRecords dcs host)) (records_bytes dcs)) reader.old) }
 {
-    let count = reader.small(1, 0, MAX_RECORDS)?;
+    let count = reader.small(1, 0, MESSAGE_RECORDS as u32)?;
     read_each(reader, dcs, host, count)
 }
 
@@ -107,7 +112,7 @@ fn read_each(
     host: DcId,
     count: u32,
 ) -> Result<Seq<Record>, DecodeFault>
-    requires dcs { (1 ≤ dcs) × (dcs ≤ 8) }
+    requires dcs { (1 ≤ dcs) × (dcs ≤ DATACENTRES) }
     requires host { host < dcs }
     ensures ok { IfOk result (λ records. AreRecords dcs host count records) }
     ensures took { IfOk result (λ records. Took reader.old reader.new (flat_map (record_bytes dcs) records)) }
@@ -138,7 +143,7 @@ fn write_message(writer: &mut Writer, message: &Message) -> Result<(), NoMemory>
 
 // Writes records behind their number.
 fn write_records(writer: &mut Writer, dcs: u32, records: &Seq<Record>) -> Result<(), NoMemory>
-    requires few { length records.now ≤ 16 }
+    requires few { length records.now ≤ MESSAGE_RECORDS }
     requires fit { All (λ r. FitsRecord dcs r) records.now }
     ensures ok { OnOk result (writer.new ≡ writer.old ++ records_bytes dcs records.now) }
     ensures texts { OnOk result (All HasTexts records.now) }

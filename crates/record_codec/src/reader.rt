@@ -1,6 +1,9 @@
+//! A reader of bytes: each part of a spelling, and the place where the bytes stop being one.
+
 ghost use Rattle.std.specs.Prelude.{◌≡◌, ◌≢◌, ◌+◌, ◌++◌, ◌<◌, ◌≤◌, ◌^◌, ◌↔◌, None, [], length, drop, take, IfOk, IfErr, OnOk, IsTrue};
 ghost use Rattle.std.specs.List.{flat_map};
 ghost use Rattle.byteorder.specs.Endian.{big_bytes};
+ghost use Rattle.cz_base.specs.declared.limits.TheConstants.{BODY_BYTES, DATACENTRES, NAME_BYTES, NUMBERS_END};
 ghost use Rattle.cz_base.specs.Text.{IsName, IsBody, is_name_byte, is_body_byte};
 ghost use Rattle.record_codec.specs.Fields.{AreEntries, AreNames, AreRows, FitsOwn, greatest_entry, least_entry};
 ghost use Rattle.record_codec.specs.Parts.{as_it_is, IsSized, IsText, IsWithin, IsWord, Misses};
@@ -10,14 +13,12 @@ ghost use Rattle.record_codec.specs.Wire.{body_bytes, counts_bytes, name_bytes, 
 use crate::DecodeFault;
 use byteorder::{BigEndian, ByteOrder};
 use causal_deps::{Counts, Table};
+use cz_base::limits::{BODY_BYTES, NAME_BYTES, NUMBERS_END};
 use cz_base::{Body, BodyFault, DcId, Name, NameFault, Seq};
 use std::alloc::Global;
 use std::marker::Model;
 
-// The greatest number that an entry of a count and a record's place may be.
-pub const MAX_COUNT: u64 = 0xFFFF_FFFF_FFFF;
-
-// Bytes that are read from the front, and how many have been. What is missed is told by its place.
+/// Bytes that are read from the front, and how many have been. What is missed is told by its place.
 #[derive(Drop)]
 pub struct Reader<'a> {
     alloc: Global,
@@ -25,10 +26,12 @@ pub struct Reader<'a> {
     at: usize,
 }
 
-// An entry of the dependencies that is known before it is read.
+/// An entry of the dependencies that is known before it is read.
 #[derive(Clone, Copy)]
 pub struct Own {
+    /// The datacentre of the entry.
     pub host: u32,
+    /// What the entry has to be.
     pub count: u64,
 }
 
@@ -44,6 +47,7 @@ impl<'a> Model for Reader<'a> {
 }
 
 impl<'a> Reader<'a> {
+    /// A reader of these bytes, none of which is read yet.
     pub fn new(alloc: Global, bytes: &'a [u8]) -> Self
         ensures { result ≡ record { left = bytes.now; at = 0 } }
     {
@@ -54,11 +58,12 @@ impl<'a> Reader<'a> {
         }
     }
 
+    /// Where the memory of what is read comes from.
     pub fn alloc(&self) -> Global {
         self.alloc
     }
 
-    // Reads a number of so many bytes that is in the range.
+    /// Reads a number of so many bytes that is in the range.
     pub fn number(&mut self, width: usize, low: u64, high: u64) -> Result<u64, DecodeFault>
         requires width { 1 ≤ width }
         requires wide { width ≤ 8 }
@@ -77,7 +82,7 @@ impl<'a> Reader<'a> {
         }
     }
 
-    // Reads a number of so many bytes that is in the range.
+    /// Reads a number of so many bytes that is in the range.
     pub fn small(&mut self, width: usize, low: u32, high: u32) -> Result<u32, DecodeFault>
         requires width { 1 ≤ width }
         requires wide { width ≤ 8 }
@@ -93,10 +98,10 @@ impl<'a> Reader<'a> {
         }
     }
 
-    // Reads the number of a datacentre of the range.
+    /// Reads the number of a datacentre of the range.
     pub fn host(&mut self, low: u32, high: u32) -> Result<DcId, DecodeFault>
         requires order { low ≤ high }
-        requires fits { high < 8 }
+        requires fits { high < DATACENTRES }
         ensures ok { IfOk result (λ host. IsWithin low high host) }
         ensures took { IfOk result (λ host. Took self.old self.new (big_bytes 1 host)) }
         ensures fault { IfErr result (Fails (IsWord (IsWithin low high) (big_bytes 1)) self.old) }
@@ -108,19 +113,19 @@ impl<'a> Reader<'a> {
         }
     }
 
-    // Reads a name behind its length.
+    /// Reads a name behind its length.
     pub fn name(&mut self) -> Result<Name, DecodeFault>
         ensures ok { IfOk result (λ name. IsName name) }
         ensures took { IfOk result (λ name. Took self.old self.new (name_bytes name)) }
         ensures fault { IfErr result (Fails (IsWord IsName name_bytes) self.old) }
     {
-        let len = self.small(1, 1, 64)?;
+        let len = self.small(1, 1, NAME_BYTES as u32)?;
         self.name_of(len as usize)
     }
 
     fn name_of(&mut self, len: usize) -> Result<Name, DecodeFault>
         requires some { 1 ≤ len }
-        requires few { len ≤ 64 }
+        requires few { len ≤ NAME_BYTES }
         ensures ok { IfOk result (λ name. IsText is_name_byte len name) }
         ensures took { IfOk result (λ name. Took self.old self.new name) }
         ensures fault { IfErr result (Fails (IsWord (IsText is_name_byte len) as_it_is) self.old) }
@@ -141,18 +146,18 @@ impl<'a> Reader<'a> {
         }
     }
 
-    // Reads a body behind its length.
+    /// Reads a body behind its length.
     pub fn body(&mut self) -> Result<Body, DecodeFault>
         ensures ok { IfOk result (λ body. IsBody body) }
         ensures took { IfOk result (λ body. Took self.old self.new (body_bytes body)) }
         ensures fault { IfErr result (Fails (IsWord IsBody body_bytes) self.old) }
     {
-        let len = self.small(2, 0, 1024)?;
+        let len = self.small(2, 0, BODY_BYTES as u32)?;
         self.body_of(len as usize)
     }
 
     fn body_of(&mut self, len: usize) -> Result<Body, DecodeFault>
-        requires { len ≤ 1024 }
+        requires { len ≤ BODY_BYTES }
         ensures ok { IfOk result (λ body. IsText is_body_byte len body) }
         ensures took { IfOk result (λ body. Took self.old self.new body) }
         ensures fault { IfErr result (Fails (IsWord (IsText is_body_byte len) as_it_is) self.old) }
@@ -172,7 +177,7 @@ impl<'a> Reader<'a> {
         }
     }
 
-    // Reads names behind their number, which is in the range.
+    /// Reads names behind their number, which is in the range.
     pub fn names(&mut self, low: u32, high: u32) -> Result<Seq<Name>, DecodeFault>
         requires order { low ≤ high }
         requires fits { high < 256 }
@@ -197,9 +202,9 @@ impl<'a> Reader<'a> {
         Ok(names)
     }
 
-    // Reads an entry for each datacentre, where one may be known.
+    /// Reads an entry for each datacentre, where one may be known.
     pub fn counts(&mut self, dcs: u32, own: Option<Own>) -> Result<Counts, DecodeFault>
-        requires dcs { (1 ≤ dcs) × (dcs ≤ 8) }
+        requires dcs { (1 ≤ dcs) × (dcs ≤ DATACENTRES) }
         requires own { FitsOwn own }
         ensures ok { IfOk result (λ counts. AreEntries own dcs counts) }
         ensures took { IfOk result (λ counts. Took self.old self.new (counts_bytes counts)) }
@@ -214,9 +219,9 @@ impl<'a> Reader<'a> {
         Ok(counts)
     }
 
-    // Reads a row for each datacentre.
+    /// Reads a row for each datacentre.
     pub fn table(&mut self, dcs: u32) -> Result<Table, DecodeFault>
-        requires { (1 ≤ dcs) × (dcs ≤ 8) }
+        requires { (1 ≤ dcs) × (dcs ≤ DATACENTRES) }
         ensures ok { IfOk result (λ table. AreRows dcs table) }
         ensures took { IfOk result (λ table. Took self.old self.new (table_bytes table)) }
         ensures fault { IfErr result (Fails (IsWord (AreRows dcs) table_bytes) self.old) }
@@ -229,7 +234,7 @@ impl<'a> Reader<'a> {
         Ok(table)
     }
 
-    // Whether no byte is left.
+    /// Whether no byte is left.
     pub fn end(&self) -> Result<(), DecodeFault>
         ensures ok { OnOk result (self.now.left ≡ []) }
         ensures fault { IfErr result (λ fault. (fault ≡ DecodeFault.Malformed self.now.at) × (self.now.left ≢ [])) }
@@ -270,9 +275,9 @@ impl<'a> Reader<'a> {
     }
 }
 
-// The datacentre of a number below 8.
+/// The datacentre of a number.
 pub fn datacentre(number: u32) -> DcId
-    requires { number < 8 }
+    requires { number < DATACENTRES }
     ensures { result ≡ number }
 {
     match DcId::new(number) {
@@ -287,11 +292,11 @@ fn range_of(own: Option<Own>, at: u32) -> (u64, u64)
     ensures low { result.0 ≡ least_entry own at }
     ensures high { result.1 ≡ greatest_entry own at }
     ensures order { result.0 ≤ result.1 }
-    ensures fits { result.1 < 2 ^ 48 }
+    ensures fits { result.1 < NUMBERS_END }
 {
     match own {
         Some(own) if at == own.host => (own.count, own.count),
-        _ => (0, MAX_COUNT),
+        _ => (0, NUMBERS_END - 1),
     }
 }
 

@@ -1,4 +1,7 @@
+//! Records: a head, dependencies, tags and a body.
+
 ghost use Rattle.std.specs.Prelude.{◌≡◌, ◌++◌, ◌<◌, ◌≤◌, length, IfOk, IfErr, MatchResult, OnOk};
+ghost use Rattle.cz_base.specs.declared.limits.TheConstants.{DATACENTRES};
 ghost use Rattle.record_codec.specs.declared.fault.DecodeFault.TheVariants.{NoMemory as OutOfMemory};
 ghost use Rattle.causal_deps.specs.declared.record.Record.{Record as RecordValue};
 ghost use Rattle.record_codec.specs.Fields.{head_word, IsHead, IsKind, IsRecord, kind_bytes};
@@ -8,17 +11,14 @@ ghost use Rattle.record_codec.specs.Starts.{IsRefused};
 ghost use Rattle.record_codec.specs.Wire.{fewest_tags, head_bytes, kind_number, most_tags, record_bytes, FitsRecord, HasTexts, IsRecordText, SpellsRecord};
 
 use crate::DecodeFault;
-use crate::reader::{MAX_COUNT, Own, Reader};
+use crate::reader::{Own, Reader};
 use crate::writer::Writer;
 use causal_deps::{Kind, Record};
+use cz_base::limits::{COMMANDS, NUMBERS_END, SESSIONS, TAGS};
 use cz_base::{DcId, NoMemory, Toid};
 use std::alloc::Global;
 
-const MAX_SESSION: u32 = 63;
-
-const MAX_INDEX: u32 = 16384;
-
-// What says whose record it is, and which.
+/// What says whose record it is, and which.
 #[derive(Clone, Copy)]
 pub struct Head {
     host: DcId,
@@ -43,7 +43,7 @@ pub fn encode_record(alloc: Global, rec: &Record) -> Result<Vec<u8>, NoMemory>
 /// `Malformed` comes exactly where they spell none, and NoMemory where memory is refused. No more
 /// memory is taken than the bytes that are there call for, whatever lengths they announce.
 pub fn decode_record(alloc: Global, bytes: &[u8], dcs: u32) -> Result<Record, DecodeFault>
-    requires { (1 ≤ dcs) × (dcs ≤ 8) }
+    requires { (1 ≤ dcs) × (dcs ≤ DATACENTRES) }
     // What is decoded is spelled so.
     ensures ok { IfOk result (λ rec. SpellsRecord dcs bytes.now rec) }
 
@@ -60,7 +60,7 @@ pub fn decode_record(alloc: Global, bytes: &[u8], dcs: u32) -> Result<Record, De
 }
 
 fn whole_record(alloc: Global, bytes: &[u8], dcs: u32) -> Result<Record, DecodeFault>
-    requires { (1 ≤ dcs) × (dcs ≤ 8) }
+    requires { (1 ≤ dcs) × (dcs ≤ DATACENTRES) }
     ensures ok { IfOk result (λ rec. SpellsRecord dcs bytes.now rec) }
     ensures refused { IfErr result (IsRefused (IsRecordText dcs) bytes.now) }
 {
@@ -70,7 +70,7 @@ fn whole_record(alloc: Global, bytes: &[u8], dcs: u32) -> Result<Record, DecodeF
     Ok(rec)
 }
 
-// Writes a record, whose names and body are what their types keep.
+/// Writes a record, whose names and body are what their types keep.
 pub fn write_record(writer: &mut Writer, rec: &Record) -> Result<(), NoMemory>
     requires { FitsRecord (length rec.now.dep) rec.now }
     ensures ok { OnOk result (writer.new ≡ writer.old ++ record_bytes (length rec.now.dep) rec.now) }
@@ -104,14 +104,14 @@ fn kind_byte(kind: Kind) -> u64
     }
 }
 
-// Reads a record for so many datacentres whose host is in the range.
+/// Reads a record for so many datacentres whose host is in the range.
 pub fn read_record(
     reader: &mut Reader<'_>,
     dcs: u32,
     low: u32,
     high: u32,
 ) -> Result<Record, DecodeFault>
-    requires dcs { (1 ≤ dcs) × (dcs ≤ 8) }
+    requires dcs { (1 ≤ dcs) × (dcs ≤ DATACENTRES) }
     requires order { low ≤ high }
     requires hosts { high < dcs }
     ensures ok { IfOk result (λ rec. IsRecord dcs low high rec) }
@@ -145,7 +145,7 @@ pub fn read_record(
 }
 
 fn read_head(reader: &mut Reader<'_>, dcs: u32, low: u32, high: u32) -> Result<Head, DecodeFault>
-    requires dcs { (1 ≤ dcs) × (dcs ≤ 8) }
+    requires dcs { (1 ≤ dcs) × (dcs ≤ DATACENTRES) }
     requires order { low ≤ high }
     requires hosts { high < dcs }
     ensures ok { IfOk result (λ head. IsHead low high head) }
@@ -154,9 +154,9 @@ fn read_head(reader: &mut Reader<'_>, dcs: u32, low: u32, high: u32) -> Result<H
 {
     reader.small(1, dcs, dcs)?;
     let host = reader.host(low, high)?;
-    let toid = reader.number(8, 1, MAX_COUNT)?;
-    let session = reader.small(2, 0, MAX_SESSION)?;
-    let index = reader.small(4, 1, MAX_INDEX)?;
+    let toid = reader.number(8, 1, NUMBERS_END - 1)?;
+    let session = reader.small(2, 0, SESSIONS as u32 - 1)?;
+    let index = reader.small(4, 1, COMMANDS)?;
     let kind = read_kind(reader)?;
     Ok(Head {
         host,
@@ -194,7 +194,7 @@ fn most(kind: Kind) -> u32
     ensures { result ≡ most_tags kind }
 {
     match kind {
-        Kind::Append => 8,
+        Kind::Append => TAGS as u32,
         Kind::Put => 1,
     }
 }

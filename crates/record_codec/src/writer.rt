@@ -1,3 +1,5 @@
+//! A writer of bytes: each part of a spelling.
+
 ghost use Rattle.std.specs.Prelude.{◌≡◌, ◌++◌, ◌<◌, ◌≤◌, ◌^◌, [], All, length, OnOk};
 ghost use Rattle.std.specs.List.{flat_map};
 ghost use Rattle.byteorder.specs.Endian.{big_bytes};
@@ -11,7 +13,7 @@ use cz_base::{Body, Name, NoMemory, Seq};
 use std::alloc::Global;
 use std::marker::Model;
 
-// Bytes that grow at the end. Contracts see the list of them.
+/// Bytes that grow at the end. Contracts see the list of them.
 #[derive(Drop)]
 pub struct Writer {
     bytes: Vec<u8>,
@@ -26,6 +28,7 @@ impl Model for Writer {
 }
 
 impl Writer {
+    /// No bytes yet.
     pub fn new(alloc: Global) -> Self
         ensures { result ≡ [] }
     {
@@ -34,6 +37,7 @@ impl Writer {
         }
     }
 
+    /// The bytes that were written.
     pub fn into_bytes(self) -> Vec<u8>
         ensures { result.items ≡ self }
     {
@@ -41,7 +45,7 @@ impl Writer {
         bytes
     }
 
-    // Writes a number in so many bytes.
+    /// Writes a number in so many bytes.
     pub fn number(&mut self, width: usize, number: u64) -> Result<(), NoMemory>
         requires width { 1 ≤ width }
         requires wide { width ≤ 8 }
@@ -70,7 +74,7 @@ impl Writer {
         self.text(text)
     }
 
-    // Writes names behind their number.
+    /// Writes names behind their number.
     pub fn names(&mut self, names: &Seq<Name>) -> Result<(), NoMemory>
         requires { length names.now < 256 }
         ensures ok { OnOk result (self.new ≡ self.old ++ names_bytes names.now) }
@@ -90,7 +94,7 @@ impl Writer {
         Ok(())
     }
 
-    // Writes a body behind its length.
+    /// Writes a body behind its length.
     pub fn body(&mut self, body: &Body) -> Result<(), NoMemory>
         ensures ok { OnOk result (self.new ≡ self.old ++ body_bytes body.now) }
         ensures is { OnOk result (IsBody body.now) }
@@ -100,7 +104,7 @@ impl Writer {
         self.text(text)
     }
 
-    // Writes each entry.
+    /// Writes each entry.
     pub fn counts(&mut self, counts: &Counts) -> Result<(), NoMemory>
         ensures { OnOk result (self.new ≡ self.old ++ counts_bytes counts.now) }
     {
@@ -110,7 +114,7 @@ impl Writer {
         Ok(())
     }
 
-    // Writes each row.
+    /// Writes each row.
     pub fn table(&mut self, table: &Table) -> Result<(), NoMemory>
         ensures { OnOk result (self.new ≡ self.old ++ table_bytes table.now) }
     {

@@ -1,3 +1,4 @@
+-- What senders and stocks stand on.
 pub mod Walking
 pub mod Fitting
 pub mod Placed

@@ -2,14 +2,15 @@
 use Rattle.std.specs.Prelude.{ℕ, ◌==◌, ◌&&◌, nat_lt, Bool, List, Option, take, filter, find}
 use Rattle.causal_deps.specs.declared.record.Record.{Record}
 use Rattle.sender_receiver.specs.Stocks.{Stocked}
+use Rattle.cz_base.specs.declared.limits.TheConstants.{MESSAGE_RECORDS}
 
 -- the record is of host d, and above the number that is known
 abbrev pub is_new : ℕ → ℕ → Record → Bool
 is_new d known r = (r.host == d) && nat_lt known r.toid
 
--- the first 16 such records
+-- the first such records, as many as a message holds
 abbrev pub first_new : ℕ → ℕ → List Record → List Record
-first_new d known records = take 16 (filter (is_new d known) records)
+first_new d known records = take MESSAGE_RECORDS (filter (is_new d known) records)
 
 -- such a record stands there, above the place lid
 abbrev pub is_new_above : ℕ → ℕ → ℕ → Stocked → Bool

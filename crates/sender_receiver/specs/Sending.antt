@@ -11,7 +11,7 @@ pub record SenderState : Type 0 where
   pub dc : ℕ
   pub number : ℕ
 
--- the message of d to e: the table, and the first 16 own records that e is not known to have
+-- the message of d to e: the table, and the first own records that e is not known to have
 abbrev pub message_to : ℕ → ℕ → List (List ℕ) → List Record → Message
 message_to d e table records = record {
   from = d;

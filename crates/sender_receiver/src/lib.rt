@@ -1,9 +1,17 @@
 //! Telling other datacentres: a sender puts its datacentre's table and the first records that the
 //! receiver is not known to have into one message, and a receiver reads the message back.
 //!
-//! A [`Stock`] is seen as a list of places and records by rising place. To the layer above it gives that
-//! the bytes of a message are those of one function of table and stock, and that nothing else decodes
-//! from them.
+//! Model: a [`Stock`] is seen as a list of places and records by rising place, and a [`Sender`] as its
+//! datacentre and its number.
+//!
+//! To the layers above: the bytes of a message are those of one function of table and stock (`message_to`),
+//! and nothing else decodes from them.
+//!
+//! Decided: the stock is a trait, so that a sender reads the maintainers of its datacentre where they are and
+//! no record is copied before it is known to be told. The message is handed out beside its bytes, since the
+//! layers above speak of messages.
+//!
+//! Tests: the crate `test_links`.
 #![tactic(auto)]
 
 mod choosing;

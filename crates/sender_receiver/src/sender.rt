@@ -1,9 +1,12 @@
+//! Senders: the message to another datacentre, and its bytes.
+
 ghost use Rattle.std.specs.Prelude.{◌≡◌, ℕ, ◌<◌, ◌≤◌, ◌^◌, length, IfOk, OnOk};
 ghost use Rattle.causal_deps.specs.Counts.{entry_of};
 ghost use Rattle.record_codec.specs.declared.message.Message.{Message as MessageValue};
 ghost use Rattle.record_codec.specs.Wire.{FitsMessage, SpellsMessage};
 ghost use Rattle.sender_receiver.specs.Stocks.{records_in};
 ghost use Rattle.sender_receiver.specs.Sending.{AreTellable, message_to};
+ghost use Rattle.cz_base.specs.declared.limits.TheConstants.{DATACENTRES, NUMBERS_END};
 
 use crate::Stock;
 use crate::choosing::first_news;
@@ -17,6 +20,7 @@ use std::marker::Model;
 #[derive(Drop)]
 pub struct Told {
     pub message: Message,
+    /// Its one spelling.
     pub bytes: Vec<u8>,
 }
 
@@ -52,7 +56,7 @@ impl Sender {
         self.number
     }
 
-    /// The encoded message to a datacentre: the table, and the first 16 records of the stock that are of
+    /// The encoded message to a datacentre: the table, and the first records of the stock that are of
     /// the sender's datacentre and that the receiver is not known to have. There may be none.
     pub fn build<T: Stock>(
         &mut self,
@@ -62,7 +66,7 @@ impl Sender {
     ) -> Result<Vec<u8>, NoMemory>
         requires from { self.old.dc < length aware.now.table }
         requires to { to < length aware.now.table }
-        requires entries { (k h : ℕ) → entry_of aware.now.table k h < 2 ^ 48 }
+        requires entries { (k h : ℕ) → entry_of aware.now.table k h < NUMBERS_END }
         requires stock { AreTellable (length aware.now.table) self.old.dc (records_in (T.held stock.now)) }
         ensures same { self.new ≡ self.old }
 
@@ -78,7 +82,7 @@ impl Sender {
     pub fn tell<T: Stock>(&mut self, to: DcId, aware: &Aware, stock: &T) -> Result<Told, NoMemory>
         requires from { self.old.dc < length aware.now.table }
         requires to { to < length aware.now.table }
-        requires entries { (k h : ℕ) → entry_of aware.now.table k h < 2 ^ 48 }
+        requires entries { (k h : ℕ) → entry_of aware.now.table k h < NUMBERS_END }
         requires stock { AreTellable (length aware.now.table) self.old.dc (records_in (T.held stock.now)) }
         ensures same { self.new ≡ self.old }
         ensures message { IfOk result (λ told. told.message ≡ message_to self.old.dc to aware.now.table (records_in (T.held stock.now))) }
@@ -95,10 +99,10 @@ impl Sender {
     fn message<T: Stock>(&self, to: DcId, aware: &Aware, stock: &T) -> Result<Message, NoMemory>
         requires from { self.now.dc < length aware.now.table }
         requires to { to < length aware.now.table }
-        requires entries { (k h : ℕ) → entry_of aware.now.table k h < 2 ^ 48 }
+        requires entries { (k h : ℕ) → entry_of aware.now.table k h < NUMBERS_END }
         requires stock { AreTellable (length aware.now.table) self.now.dc (records_in (T.held stock.now)) }
         ensures value { IfOk result (λ message. message ≡ message_to self.now.dc to aware.now.table (records_in (T.held stock.now))) }
-        ensures dcs { OnOk result (length aware.now.table ≤ 8) }
+        ensures dcs { OnOk result (length aware.now.table ≤ DATACENTRES) }
         ensures fits { IfOk result (λ message. FitsMessage (length aware.now.table) message) }
     {
         let table = aware.table();

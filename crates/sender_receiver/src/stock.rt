@@ -1,3 +1,5 @@
+//! Stocks: what a sender finds its records in.
+
 ghost use Rattle.std.specs.Prelude.{◌≡◌, List, IsSome, Some};
 ghost use Rattle.std.specs.Option.{option_map};
 ghost use Rattle.sender_receiver.specs.Stocks.{Stocked, IsRisingFrom, place_after, record_at};

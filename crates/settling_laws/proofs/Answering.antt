@@ -60,7 +60,7 @@ home_has P z tag some numbered all = at (find (λ (i : IndexerState). eqb i.numb
 clear_where_told : (load : Workload) (d : ℕ) (z : Datacentre) (l : IsLive load d z) (told : IsAllTold d z) (x : Session) → IsAsFar l.standing.world.workload l.standing.world.sessions (log_of l.standing.world d) d z.floor x → IsClear z (top_for z x.number) x
 clear_where_told load d z l told x far = (
   omega (arith, top_is, seen, whole),
-  omega (arith, top_is, h.aware.floor, whole),
+  omega (arith, top_is, h.knowledge.aware.floor, whole),
   λ tag. omega (arith, top_is, covered tag),
   λ s tag is. omega (arith, (far.pinned s is).within, covered tag, whole),
 )
@@ -69,13 +69,13 @@ clear_where_told load d z l told x far = (
     h = stands_at load d z l
 
     whole : z.token.last ≡ length (log_of l.standing.world d)
-    whole = h.counted.whole
+    whole = h.positions.counted.whole
 
     top_is : top_for z x.number ≡ z.token.last
-    top_is = told.heads (x.number % z.first) _ (omega (arith, mod-lt x.number h.served.0, h.served.1))
+    top_is = told.heads (x.number % z.first) _ (omega (arith, mod-lt x.number h.coverage.served.0, h.coverage.served.1))
 
     covered : (tag : List ℕ) → head (home_of z tag).pair ≡ z.token.last
-    covered tag = home_has (λ (i : IndexerState). head i.pair ≡ z.token.last) z tag (omega (arith, h.members.ranges.indexers.0)) h.numbered told.covered
+    covered tag = home_has (λ (i : IndexerState). head i.pair ≡ z.token.last) z tag (omega (arith, h.membership.members.ranges.indexers.0)) h.coverage.numbered told.covered
 
     seen : x.standing.floor ≤ length (log_of l.standing.world d)
     seen =
@@ -99,7 +99,7 @@ module _ (load : Workload) (d : ℕ) (z : Datacentre) (l : IsLive load d z) wher
   Behind k = (k < length z.sessions) × ((was k).standing.answered < length (was k).commands)
 
   far_at : (y : Datacentre) (v : IsLive load d y) (k : ℕ) → k < length y.sessions → IsAsFar v.standing.world.workload v.standing.world.sessions (log_of v.standing.world d) d y.floor (session_at y.sessions k)
-  far_at y v k within = (stands_at load d y v).sessions k no_session within
+  far_at y v k within = (stands_at load d y v).clients.sessions k no_session within
 
   -- session k of z went on, or began a write
   abbrev HasMoved : ℕ → Datacentre → Type 0

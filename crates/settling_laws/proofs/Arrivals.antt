@@ -43,8 +43,8 @@ module _ (w : World) (e : ℕ) (z : Datacentre) (stands : StandsAt w e z) (drain
   -- the record may be stamped
   ready : is_ready z.token.counts (External r) ≡ true
   ready = ready_found (λ g. get_or z.token.counts g 0) (External r) (record {
-    next = omega (arith, named.1, next, stands.counted.each r.host, ap (count_of (log_of w e)) named.0);
-    known = λ g apart. omega (arith, known g (λ same. apart (same ∙ sym named.0)), stands.counted.each g);
+    next = omega (arith, named.1, next, stands.positions.counted.each r.host, ap (count_of (log_of w e)) named.0);
+    known = λ g apart. omega (arith, known g (λ same. apart (same ∙ sym named.0)), stands.positions.counted.each g);
   })
 
   -- so it is not deferred
@@ -54,7 +54,7 @@ module _ (w : World) (e : ℕ) (z : Datacentre) (stands : StandsAt w e z) (drain
       let found = some_term (is_named h t) z.token.deferred nothing some in
       let item : Item = get_or z.token.deferred found.0 nothing in
       let its = named_is h t item found.2 in
-      let due : IsDue w.workload w.sessions w.logs (pending_of w e) e item = stands.under_way.due.deferred found.0 nothing found.1 in
+      let due : IsDue w.workload w.sessions w.logs (pending_of w e) e item = stands.items.under_way.due.deferred found.0 nothing found.1 in
       let of : IsFromElsewhere w.workload.dcs w.logs (pending_of w e) e its.0 = subst (IsDue w.workload w.sessions w.logs (pending_of w e) e) its.1 due in
       let at_name : nth_of (log_of w h) h t ≡ Some its.0 = subst (λ u. nth_of (log_of w h) h u ≡ Some its.0) its.3 (subst (λ i. nth_of (log_of w i) i its.0.toid ≡ Some its.0) its.2 of.known) in
       let same : its.0 ≡ r = same_Some its.0 r (sym at_name ∙ is) in
@@ -65,13 +65,13 @@ module _ (w : World) (e : ℕ) (z : Datacentre) (stands : StandsAt w e z) (drain
   passed_before : (u : ℕ) → 1 ≤ u → u < t → 1 ≤ passed h u fs
   passed_before u first low =
       let logged : name_in (log_of w e) h u ≡ 1 = cond-true (leb 1 u && leb u (count_of (log_of w e) h)) 1 0 (and_from (leb 1 u) (leb u (count_of (log_of w e) h)) (le-leb 1 u first) (le-leb u (count_of (log_of w e) h) (omega (arith, low, next)))) in
-      omega (arith, stands.under_way.once h u other, logged)
+      omega (arith, stands.items.under_way.once h u other, logged)
 
   sound_at : (i : ℕ) → i < length fs → IsSound (filter_at fs i)
-  sound_at i within = steady_sound (filter_at fs i) (stands.sound.each i no_filter within)
+  sound_at i within = steady_sound (filter_at fs i) (stands.items.sound.each i no_filter within)
 
   champion_at : (i u : ℕ) → i < length fs → owns (filter_at fs i) h u ≡ true → champion z.map h u ≡ i
-  champion_at i u within own = ap (λ m. champion m h u) (sym (stands.sound.one_map i no_filter within)) ∙ eqb-true (champion (filter_at fs i).map h u) (filter_at fs i).number own ∙ stands.sound.numbers i within
+  champion_at i u within own = ap (λ m. champion m h u) (sym (stands.items.sound.one_map i no_filter within)) ∙ eqb-true (champion (filter_at fs i).map h u) (filter_at fs i).number own ∙ stands.items.sound.numbers i within
 
   -- no filter holds it
   not_held : (i : ℕ) → i < length fs → (k : ℕ) (q : Record) → k < length (filter_at fs i).held → 1 ≤ is_named h t (External (get_or (filter_at fs i).held k q)) → ⊥
@@ -84,7 +84,7 @@ module _ (w : World) (e : ℕ) (z : Datacentre) (stands : StandsAt w e z) (drain
       let toid : x.toid ≡ t = ap (λ (y : Record). y.toid) x_is ∙ its.3 in
       elim (held_waits f x ((sound_at i within).none_free k q inside)) [
         | inr marked ↦
-            let none : f.accepted ≡ None = stands.sound.heard i within ∙ ap (λ a. mark_accepted a i) quiet in
+            let none : f.accepted ≡ None = stands.items.sound.heard i within ∙ ap (λ a. mark_accepted a i) quiet in
             true≢false (sym marked ∙ ap (λ a. is_held_back a x.host x.toid) none)
         | inl waits ↦
             let u : ℕ = waits.0 in
@@ -112,7 +112,7 @@ module _ (w : World) (e : ℕ) (z : Datacentre) (stands : StandsAt w e z) (drain
   -- it is not under way
   pub not_under_way : Contains (pending_of w e) (h, t) → ⊥
   not_under_way waits =
-      let awaited = stands.under_way.awaited h t waits in
+      let awaited = stands.items.under_way.awaited h t waits in
       let batchers = sum_none (λ (b : List Item). sum_by (is_named h t) b) z.batchers (λ k d within. ap (sum_by (is_named h t)) (drained.batchers k d within)) in
       let out = sum_none (λ (f : FilterState). sum_by (is_named h t) f.out) z.filters (λ k d within. ap (sum_by (is_named h t)) (drained.filters k d within)) in
       let queues = sum_none (λ (q : QueueState). sum_by (is_named h t) q.items) z.queues (λ k d within. ap (sum_by (is_named h t)) (drained.queues k d within)) in

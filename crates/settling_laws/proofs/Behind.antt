@@ -23,13 +23,15 @@ use Rattle.log_laws.proofs.Growth.{Grows, grows}
 use Rattle.stage_world.specs.Stages.{Stages}
 use Rattle.stage_world.specs.StandsFor.{StandsAt}
 use Rattle.stage_world.specs.Whole.{datacentre_at}
-use Rattle.stage_world.specs.Schedules.{IsStep, IsKept, step_of, after_steps}
+use Rattle.abstract_log.specs.Turns.{IsStep}
+use Rattle.stage_world.specs.Schedules.{IsKept, step_of, after_steps}
 use Rattle.stage_world.proofs.Frames.{grows as tables_grow}
 use Rattle.stage_world.proofs.ReceiveTurn.{names_keep}
 use Rattle.stage_world.proofs.ListLemmas.{Contains-filter}
 use Rattle.stage_world.proofs.AllTurns.{step_kept}
 use Rattle.settling_laws.specs.Rounds.{IsStanding}
-use Rattle.log_laws.proofs.LawfulAfter.{lawful_after, workload_stays}
+use Rattle.log_laws.proofs.LawfulAfter.{lawful_after}
+use Rattle.log_laws.proofs.LimitedRuns.{workload_stays}
 
 -- number t of host h is awaited at g or in its log
 abbrev pub IsDueAt : World → ℕ → ℕ → ℕ → Type 0

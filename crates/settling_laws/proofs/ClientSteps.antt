@@ -1,5 +1,5 @@
 -- The turn of a session: what it changes, and when the session goes on.
-use Rattle.std.proofs.Common.{◌≡◌, ◌⊎◌, ℕ, zero, suc, ◌+◌, ◌%◌, ◌<◌, ◌≤◌, Bool, true, false, cond, ltb, eqb, List, [], ◌∷◌, ◌++◌, length, refl, ap, ap₂, sym, ◌∙◌, inl, inr, arith, Option, Some, None, slice_get}
+use Rattle.std.proofs.Common.{◌≡◌, ◌⊎◌, ℕ, zero, suc, ◌+◌, ◌%◌, ◌<◌, ◌≤◌, true, false, cond, ltb, eqb, List, [], ◌∷◌, ◌++◌, length, refl, ap, ap₂, sym, ◌∙◌, inl, inr, arith, Option, Some, None, slice_get}
 use Rattle.std.specs.Option.{option_map_or}
 use Rattle.std.proofs.lemmas.List.{length_push, length-set}
 use Rattle.std.proofs.lemmas.Bool.{cond_both, ltb-true}
@@ -21,6 +21,7 @@ use Rattle.stage_world.specs.Turns.{Turned, quiet, at_session, begun, submitted}
 use Rattle.tag_indexer.specs.Rows.{tagged_places}
 use Rattle.stage_world.specs.MoreTurns.{home_of}
 use Rattle.stage_world.specs.ClientTurns.{next_index, looked_up, replied, reading_at, found_more, behind_turn, found_turn, key_turn, reply_with, last_turn, shown_at, waiting_turn, look_turn, open_turn, and_then, top_for, begin_turn}
+use Rattle.stage_world.proofs.SessionLemmas.{begun_then}
 use Rattle.settling_laws.specs.Rounds.{work_of, left_to}
 use Rattle.settling_laws.proofs.Progress.{HasOpenWrite, GoesOn, Moves, goes_same, drop_next, write_keys}
 
@@ -42,15 +43,6 @@ pub record IsStepOf (z : Datacentre) (x : Session) (clear : Type 0) (y : Datacen
 pub none_changed : (s : ℕ) (xs : List Session) → at_session s (λ u. u) xs ≡ xs
 none_changed s [] = refl
 none_changed s (x ∷ xs) = ap₂ (λ (y : Session) ys. y ∷ ys) (cond_both (eqb x.number s) x x (λ y. y ≡ x) (λ _. refl) (λ _. refl)) (none_changed s xs)
-
--- a change after a begin
-pub begun_then : (n : ℕ) (g : Session → Session) (xs : List Session) → at_session n g (at_session n begun xs) ≡ at_session n (λ y. g (begun y)) xs
-begun_then n g [] = refl
-begun_then n g (y ∷ ys) = ap₂ (λ (s : Session) ss. s ∷ ss) (one (eqb y.number n) refl) (begun_then n g ys)
-  where
-    one : (b : Bool) → eqb y.number n ≡ b → cond (eqb (cond b (begun y) y).number n) (g (cond b (begun y) y)) (cond b (begun y) y) ≡ cond b (g (begun y)) y
-    one true is = ap (λ b. cond b (g (begun y)) (begun y)) is
-    one false is = ap (λ b. cond b (g y) y) is
 
 pub still_step : (z : Datacentre) (x : Session) (clear : Type 0) → (clear → Moves x x) → IsStepOf z x clear z
 still_step z x clear moves = record {

@@ -175,7 +175,7 @@ client_turns load d z s l = by_session (find (λ x. eqb x.number s) z.sessions) 
     by_next : (x : Session) → Contains z.sessions x → x.number ≡ s → (o : Option Command) → slice_get x.commands x.standing.answered ≡ o
         → IsClientTurn z s (option_map_or (λ c. cond x.standing.begun (open_turn d z x (top_for z x.number) c) (begin_turn d z x c)) o (quiet Finished z)).after
     by_next x has number None is =
-        turn_by_step z x (x.standing.answered < length x.commands) z s (stands_at load d z l).ordered has number (still_step z x (x.standing.answered < length x.commands) (λ behind. absurd (none_next x.commands x.standing.answered behind is))) (λ free behind. behind)
+        turn_by_step z x (x.standing.answered < length x.commands) z s (stands_at load d z l).clients.ordered has number (still_step z x (x.standing.answered < length x.commands) (λ behind. absurd (none_next x.commands x.standing.answered behind is))) (λ free behind. behind)
       where
         none_next : (cs : List Command) (n : ℕ) → n < length cs → slice_get cs n ≡ None → ⊥
         none_next [] n within e = absurd (omega (arith, within))
@@ -184,9 +184,9 @@ client_turns load d z s l = by_session (find (λ x. eqb x.number s) z.sessions) 
     by_next x has number (Some c) is =
         let h = stands_at load d z l in
         let w = l.standing.world in
-        let far : IsAsFar w.workload w.sessions (log_of w d) d z.floor x = All-contains (IsAsFar w.workload w.sessions (log_of w d) d z.floor) z.sessions x h.sessions has in
+        let far : IsAsFar w.workload w.sessions (log_of w d) d z.floor x = All-contains (IsAsFar w.workload w.sessions (log_of w d) d z.floor) z.sessions x h.clients.sessions has in
         let few : length x.found ≤ length (keys_of c) = found_few w.workload w.sessions (log_of w d) d z.floor x c far is in
-        turn_by_step z x (IsClear z (top_for z x.number) x) (cond x.standing.begun (open_turn d z x (top_for z x.number) c) (begin_turn d z x c)).after s h.ordered has number
+        turn_by_step z x (IsClear z (top_for z x.number) x) (cond x.standing.begun (open_turn d z x (top_for z x.number) c) (begin_turn d z x c)).after s h.clients.ordered has number
         (next_step d z x c is (omega arith) (λ _ some. found_fewer w.workload w.sessions (log_of w d) d z.floor x c far is some)
         (some_keys c (command_fits w.workload w.sessions (log_of w d) d z.floor x c l.standing.lawful.limits far is)))
         (λ free behind. subst (λ n. IsClear z (top_for z n) x) (sym number) free)

@@ -61,7 +61,7 @@ module _ (load : Workload) (d : ℕ) (z : Datacentre) (l : IsLive load d z) (dra
       let seen : AreCovered (standing_of w draft.session).past (count_of (log_of w (plan_of w.workload draft.session).home)) = (l.standing.lawful.sessions draft.session).seen in
       let here : AreCovered (standing_of w draft.session).past (count_of (log_of w d)) = subst (λ e. AreCovered (standing_of w draft.session).past (count_of (log_of w e))) opened.home seen in
       let dep : AreCovered draft.dep (count_of (log_of w d)) = subst (λ p. AreCovered p (count_of (log_of w d))) (sym opened.tells.dep) here in
-      covering draft.dep (λ g. get_or z.token.counts g 0) (λ g. omega (arith, dep g, h.counted.each g))
+      covering draft.dep (λ g. get_or z.token.counts g 0) (λ g. omega (arith, dep g, h.positions.counted.each g))
 
   -- so none waits
   no_draft : (s : ℕ) (item : Item) → Due item → is_ready z.token.counts item ≡ false → is_draft_of s item ≡ 0
@@ -69,12 +69,12 @@ module _ (load : Workload) (d : ℕ) (z : Datacentre) (l : IsLive load d z) (dra
   no_draft s (External r) due waits = refl
 
   none_deferred : (s : ℕ) → sum_by (is_draft_of s) z.token.deferred ≡ 0
-  none_deferred s = sum_none (is_draft_of s) z.token.deferred (λ k e within. no_draft s (get_or z.token.deferred k e) (h.under_way.due.deferred k e within) (drained.deferred k e within))
+  none_deferred s = sum_none (is_draft_of s) z.token.deferred (λ k e within. no_draft s (get_or z.token.deferred k e) (h.items.under_way.due.deferred k e within) (drained.deferred k e within))
 
   none_under_way : (s : ℕ) → one_of (open_draft w.workload w.sessions d s) ≡ 0
   none_under_way s = omega (
     arith,
-    h.under_way.drafts s,
+    h.items.under_way.drafts s,
     sum_none (λ (b : List Item). sum_by (is_draft_of s) b) z.batchers (λ k e within. ap (sum_by (is_draft_of s)) (drained.batchers k e within)),
     sum_none (λ (f : FilterState). sum_by (λ r. is_draft_of s (External r)) f.held) z.filters (λ k e within. no_drafts s (get_or z.filters k e).held),
     sum_none (λ (f : FilterState). sum_by (is_draft_of s) f.out) z.filters (λ k e within. ap (sum_by (is_draft_of s)) (drained.filters k e within)),
@@ -99,4 +99,4 @@ module _ (load : Workload) (d : ℕ) (z : Datacentre) (l : IsLive load d z) (dra
           absurd (omega (arith, none_under_way x.number, ap one_of there))
 
   pub no_open_writes : All HasNoOpenWrite z.sessions
-  no_open_writes = λ k e within. none_open (get_or z.sessions k e) (h.sessions k e within)
+  no_open_writes = λ k e within. none_open (get_or z.sessions k e) (h.clients.sessions k e within)

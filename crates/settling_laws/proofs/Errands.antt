@@ -25,7 +25,8 @@ use Rattle.stage_world.specs.Stages.{Datacentre, Stages, batcher_at}
 use Rattle.stage_world.specs.MoreTurns.{message_of, names_of, received, receive_turn}
 use Rattle.stage_world.specs.LinkTurns.{Moved, still, moved_at, with_link, put_in_link, send_turn, link_length}
 use Rattle.stage_world.specs.Whole.{datacentre_at, link_at, nowhere_at, with_turn}
-use Rattle.stage_world.specs.Schedules.{IsStep, step_of, after_steps}
+use Rattle.abstract_log.specs.Turns.{IsStep}
+use Rattle.stage_world.specs.Schedules.{step_of, after_steps}
 use Rattle.stage_world.specs.Settling.{sent_and_delivered}
 use Rattle.stage_world.proofs.ReceiveTurn.{names_come}
 use Rattle.settling_laws.specs.Rounds.{IsStanding}
@@ -49,6 +50,20 @@ beside_both x y z a b = record {
   table = λ k h. omega (arith, a.table k h, b.table k h);
 }
 
+-- There are as many datacentres, and each is beside what it was.
+pub record AreBeside (z new : Stages) : Type 0 where
+  pub datacentres : length new.datacentres ≡ length z.datacentres
+  pub each : (g : ℕ) → IsBeside (datacentre_at z g) (datacentre_at new g)
+
+pub all_beside_themselves : (z : Stages) → AreBeside z z
+all_beside_themselves z = record { datacentres = refl; each = λ g. beside_itself (datacentre_at z g) }
+
+pub all_beside_both : (x y z : Stages) → AreBeside x y → AreBeside y z → AreBeside x z
+all_beside_both x y z a b = record {
+  datacentres = b.datacentres ∙ a.datacentres;
+  each = λ g. beside_both (datacentre_at x g) (datacentre_at y g) (datacentre_at z g) (a.each g) (b.each g);
+}
+
 -- the message that went last into a list is found there
 last_found : (ms : List Message) (m : Message) → message_at (ms ++ m ∷ []) (length (ms ++ m ∷ [])) ≡ Some m
 last_found ms m =
@@ -61,8 +76,7 @@ put_found ms m = cond_both (ltb (length ms) 64) (ms ++ m ∷ []) (drop 1 ms ++ m
 -- What an errand from d to e with message m leaves.
 pub record IsErrandDone (load : Workload) (z : Stages) (h : IsStanding load z) (d e : ℕ) (m : Message) (new : Stages) : Type 0 where
   pub leads : LeadsTo load z new h
-  pub datacentres : length new.datacentres ≡ length z.datacentres
-  pub beside : (g : ℕ) → IsBeside (datacentre_at z g) (datacentre_at new g)
+  pub beside : AreBeside z new
   pub told : (k g : ℕ) → entry_of m.table k g ≤ entry_of (datacentre_at new e).table k g
   pub due : (n : ℕ × ℕ) → Contains (names_of m.records) n → IsDueAt leads.standing.world e n.0 n.1
 
@@ -111,7 +125,7 @@ module _ (load : Workload) (z : Stages) (h : IsStanding load z) (d k e : ℕ) (i
   freed = with_link y d e (without (link_at y d e) n)
 
   receivers : 0 < (datacentre_at z e).receivers
-  receivers = omega (arith, (stands_at load e (datacentre_at z e) (live_at load e z in_e h)).members.ranges.receivers.0)
+  receivers = omega (arith, (stands_at load e (datacentre_at z e) (live_at load e z in_e h)).membership.members.ranges.receivers.0)
 
   delivered_is : step_of load y deliver ≡ moved_at freed e (receive_turn e (datacentre_at z e) 0 m)
   delivered_is =
@@ -164,11 +178,13 @@ module _ (load : Workload) (z : Stages) (h : IsStanding load z) (d k e : ℕ) (i
       let leads : LeadsTo load z new h = record { standing = by.standing; behind = behind_both h.world stands_y.standing.world by.standing.world stands_y.behind by.behind } in
       record {
         leads = leads;
-        datacentres = length-set z.datacentres e (received (datacentre_at z e) 0 m);
-        beside = λ g. elim (cases_eq g e) [
-          | inl same ↦ subst (λ j. IsBeside (datacentre_at z j) (datacentre_at new j)) (sym same) (subst (IsBeside (datacentre_at z e)) (sym at_e) received_beside)
-          | inr other ↦ subst (IsBeside (datacentre_at z g)) (sym (get_or-set_other z.datacentres e g (received (datacentre_at z e) 0 m) nowhere_at other)) (beside_itself (datacentre_at z g))
-        ];
+        beside = record {
+          datacentres = length-set z.datacentres e (received (datacentre_at z e) 0 m);
+          each = λ g. elim (cases_eq g e) [
+            | inl same ↦ subst (λ j. IsBeside (datacentre_at z j) (datacentre_at new j)) (sym same) (subst (IsBeside (datacentre_at z e)) (sym at_e) received_beside)
+            | inr other ↦ subst (IsBeside (datacentre_at z g)) (sym (get_or-set_other z.datacentres e g (received (datacentre_at z e) 0 m) nowhere_at other)) (beside_itself (datacentre_at z g))
+          ];
+        };
         told = λ i g. omega (arith, ap (λ (v : Datacentre). entry_of v.table i g) at_e, entry_of-greater_rows (datacentre_at z e).table m.table i g);
         due = λ x has. subst (λ v. IsDueAt v e x.0 x.1) (sym by.world)
             (come stands_y.standing.world x (omega (arith, in_e, stands_y.standing.lawful.shape.pending, ap (λ (l : Workload). l.dcs) stands_y.standing.workload)) has);

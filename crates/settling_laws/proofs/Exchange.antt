@@ -1,5 +1,5 @@
 -- An exchange: every datacentre tells every other its table, and the next of its own records that the other lacks.
-use Rattle.std.proofs.Common.{◌≡◌, ◌≢◌, ◌⊎◌, ℕ, ◌+◌, ◌-◌, ◌<◌, ◌≤◌, true, false, eqb, ltb, List, [], ◌∷◌, ◌++◌, length, take, refl, ap, sym, subst, ◌∙◌, inl, inr, arith, Some, slice_get}
+use Rattle.std.proofs.Common.{◌≡◌, ◌≢◌, ◌⊎◌, ℕ, ◌+◌, ◌-◌, ◌<◌, ◌≤◌, true, false, eqb, ltb, List, [], ◌∷◌, ◌++◌, length, take, ap, sym, subst, ◌∙◌, inl, inr, arith, Some, slice_get}
 use Rattle.std.specs.List.{All, Contains}
 use Rattle.std.proofs.lemmas.List.Elements.{All-nil, All-head, All-tail, All-append, All-contains, All-weaker}
 use Rattle.std.proofs.lemmas.Option.{same_Some}
@@ -20,13 +20,14 @@ use Rattle.stage_world.specs.Stages.{Datacentre, Stages}
 use Rattle.stage_world.specs.StandsFor.{StandsAt}
 use Rattle.stage_world.specs.MoreTurns.{message_of, names_of, stock_of}
 use Rattle.stage_world.specs.Whole.{datacentre_at}
-use Rattle.stage_world.specs.Schedules.{IsStep, after_steps}
+use Rattle.abstract_log.specs.Turns.{IsStep}
+use Rattle.stage_world.specs.Schedules.{after_steps}
 use Rattle.stage_world.specs.Settling.{Errand, is_due, sent_and_delivered, errand_turns, exchange}
 use Rattle.stage_world.proofs.ListLemmas.{Contains-cases, Contains-head, Contains-tail}
 use Rattle.settling_laws.specs.Rounds.{IsStanding}
 use Rattle.settling_laws.proofs.Rounds.{after_steps-append}
 use Rattle.settling_laws.proofs.Behind.{IsDueAt, behind_itself, behind_both, LeadsTo, stands_here}
-use Rattle.settling_laws.proofs.Errands.{IsBeside, beside_itself, beside_both, IsErrandDone, errand_runs}
+use Rattle.settling_laws.proofs.Errands.{AreBeside, IsBeside, all_beside_both, all_beside_themselves, IsErrandDone, errand_runs}
 use Rattle.stage_world.proofs.StockLemmas.{All-stock}
 use Rattle.settling_laws.proofs.Stocks.{first_told, stock_rises}
 
@@ -88,13 +89,13 @@ module _ (load : Workload) (z : Stages) (h : IsStanding load z) (x : Errand) (go
 
   -- the table knows no more than the other has
   known_most : known ≤ count_of (log_of w x.to) x.from
-  known_most = omega (arith, ap (λ t. entry_of t x.to x.from) stands.aware.same, h.lawful.tables x.from x.to x.from, h.lawful.own_rows x.to x.from)
+  known_most = omega (arith, ap (λ t. entry_of t x.to x.from) stands.knowledge.aware.same, h.lawful.tables x.from x.to x.from, h.lawful.own_rows x.to x.from)
 
   abbrev IsStock : Stocked → Type 0
   IsStock y = IsEntryOf (log_of w x.from) (record { lid = y.lid; value = y.rec })
 
   all_stock : All IsStock (stock_of v.maintainers x.sender v.senders)
-  all_stock = All-stock IsStock x.sender v.senders v.maintainers stands.placed.entries
+  all_stock = All-stock IsStock x.sender v.senders v.maintainers stands.positions.placed.entries
 
   -- the next record is told, or it is there already
   next_told : (q : Record) → IsNext z x q → (q.toid ≤ count_of (log_of w x.to) x.from) ⊎ Contains m.records q
@@ -129,8 +130,7 @@ module _ (load : Workload) (z : Stages) (h : IsStanding load z) (x : Errand) (go
   pub record IsRun (new : Stages) (turns : List Step) : Type 0 where
     pub steps : All (IsStep load) turns
     pub leads : LeadsTo load z new h
-    pub datacentres : length new.datacentres ≡ length z.datacentres
-    pub beside : (g : ℕ) → IsBeside (datacentre_at z g) (datacentre_at new g)
+    pub beside : AreBeside z new
     pub told : x.sender ≡ 0 → (k g : ℕ) → entry_of v.table k g ≤ entry_of (datacentre_at new x.to).table k g
     pub due : (q : Record) → IsNext z x q → IsDueAt leads.standing.world x.to q.host q.toid
 
@@ -141,7 +141,6 @@ module _ (load : Workload) (z : Stages) (h : IsStanding load z) (x : Errand) (go
       record {
         steps = both.0;
         leads = done.leads;
-        datacentres = done.datacentres;
         beside = done.beside;
         told = λ _. done.told;
         due = λ q next. elim (next_told q next) [
@@ -156,8 +155,7 @@ module _ (load : Workload) (z : Stages) (h : IsStanding load z) (x : Errand) (go
       record {
         steps = All-nil (IsStep load);
         leads = record { standing = h; behind = behind_itself w };
-        datacentres = refl;
-        beside = λ g. beside_itself (datacentre_at z g);
+        beside = all_beside_themselves z;
         told = λ first. absurd (true≢false (sym (eq-eqb x.sender 0 first) ∙ parts.0));
         due = λ q next. elim (next_told q next) [
           | inl there ↦ inr (subst (λ i. q.toid ≤ count_of (log_of w x.to) i) (sym next.host) there)
@@ -172,8 +170,7 @@ module _ (load : Workload) (z : Stages) (h : IsStanding load z) (x : Errand) (go
 pub record IsExchanged (load : Workload) (z : Stages) (h : IsStanding load z) (xs : List Errand) (new : Stages) (turns : List Step) : Type 0 where
   pub steps : All (IsStep load) turns
   pub leads : LeadsTo load z new h
-  pub datacentres : length new.datacentres ≡ length z.datacentres
-  pub beside : (g : ℕ) → IsBeside (datacentre_at z g) (datacentre_at new g)
+  pub beside : AreBeside z new
   pub told : (x : Errand) → Contains xs x → x.sender ≡ 0 → (k g : ℕ) → entry_of (datacentre_at z x.from).table k g ≤ entry_of (datacentre_at new x.to).table k g
   pub due : (x : Errand) (q : Record) → Contains xs x → IsNext z x q → IsDueAt leads.standing.world x.to q.host q.toid
 
@@ -181,8 +178,7 @@ pub exchanged : (load : Workload) (xs : List Errand) (z : Stages) (h : IsStandin
 exchanged load [] z h all = record {
   steps = All-nil (IsStep load);
   leads = record { standing = h; behind = behind_itself h.world };
-  datacentres = refl;
-  beside = λ g. beside_itself (datacentre_at z g);
+  beside = all_beside_themselves z;
   told = λ x has. absurd (omega (arith, has.1));
   due = λ x q has. absurd (omega (arith, has.1));
 }
@@ -191,24 +187,23 @@ exchanged load (x ∷ xs) z h all =
     let y : Stages = after_steps load z ts in
     let first = errand_run load z h x (All-head (IsErrand load z) x xs all) in
     let rest : IsExchanged load y first.leads.standing xs (after_steps load y (exchange load y xs)) (exchange load y xs) =
-    exchanged load xs y first.leads.standing (All-weaker (IsErrand load z) (IsErrand load y) (λ u. errand_stays load z y u first.beside) xs (All-tail (IsErrand load z) x xs all)) in
+    exchanged load xs y first.leads.standing (All-weaker (IsErrand load z) (IsErrand load y) (λ u. errand_stays load z y u first.beside.each) xs (All-tail (IsErrand load z) x xs all)) in
     let end : Stages = after_steps load y (exchange load y xs) in
     let is : after_steps load z (ts ++ exchange load y xs) ≡ end = after_steps-append load ts (exchange load y xs) z in
     subst (λ s. IsExchanged load z h (x ∷ xs) s (ts ++ exchange load y xs)) (sym is) (record {
       steps = All-append (IsStep load) ts (exchange load y xs) first.steps rest.steps;
       leads = record { standing = rest.leads.standing; behind = behind_both h.world first.leads.standing.world rest.leads.standing.world first.leads.behind rest.leads.behind };
-      datacentres = rest.datacentres ∙ first.datacentres;
-      beside = λ g. beside_both (datacentre_at z g) (datacentre_at y g) (datacentre_at end g) (first.beside g) (rest.beside g);
+      beside = all_beside_both z y end first.beside rest.beside;
       told = λ u has zeroth k g. elim (Contains-cases x u xs has) [
         | inl same ↦ omega (
           arith,
           subst (λ (e : Errand). entry_of (datacentre_at z e.from).table k g ≤ entry_of (datacentre_at y e.to).table k g) same (first.told (ap (λ (e : Errand). e.sender) same ∙ zeroth) k g),
-          (rest.beside u.to).table k g,
+          (rest.beside.each u.to).table k g,
         )
-        | inr later ↦ omega (arith, (first.beside u.from).table k g, rest.told u later zeroth k g)
+        | inr later ↦ omega (arith, (first.beside.each u.from).table k g, rest.told u later zeroth k g)
       ];
       due = λ u q has next. elim (Contains-cases x u xs has) [
         | inl same ↦ rest.leads.behind.due u.to q.host q.toid (subst (λ (e : Errand). IsDueAt first.leads.standing.world e.to q.host q.toid) same (first.due q (subst (λ e. IsNext z e q) (sym same) next)))
-        | inr later ↦ rest.due u q later (next_stays z y u q first.beside next)
+        | inr later ↦ rest.due u q later (next_stays z y u q first.beside.each next)
       ];
     })

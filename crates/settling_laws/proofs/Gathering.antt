@@ -30,7 +30,7 @@ all_clients load d z l =
     let w = l.standing.world in
     All-map (IsClientOf load d) (λ (x : Session). Client x.number) z.sessions
     (λ k e within.
-    let far : IsAsFar w.workload w.sessions (log_of w d) d z.floor (get_or z.sessions k e) = (stands_at load d z l).sessions k e within in
+    let far : IsAsFar w.workload w.sessions (log_of w d) d z.floor (get_or z.sessions k e) = (stands_at load d z l).clients.sessions k e within in
     ((get_or z.sessions k e).number, subst (λ x. IsAt x (get_or z.sessions k e).number d) l.standing.workload far.home, refl))
 
 -- in a round, and the token is as it was
@@ -85,7 +85,7 @@ module _ (load : Workload) (d : ℕ) (z : Datacentre) where
     pub batchers : AreFlushed y
 
   some_queue : IsLive load d z → 0 < length z.queues
-  some_queue l = omega (arith, (stands_at load d z l).members.ranges.queues.0)
+  some_queue l = omega (arith, (stands_at load d z l).membership.members.ranges.queues.0)
 
   module _ (l : IsLive load d z) where
     abbrev queue_of : ℕ → ℕ

@@ -93,20 +93,20 @@ module _ (load : Workload) (d : ℕ) (z : Datacentre) where
     stands = stands_at load d y h.round.live
 
     inside_m : m < length y.vectors
-    inside_m = omega (arith, in_m, maintainers_stay load d z y h.round, stands.members.vectors)
+    inside_m = omega (arith, in_m, maintainers_stay load d z y h.round, stands.membership.members.vectors)
 
     inside_k : k < length told
-    inside_k = omega (arith, in_k, maintainers_stay load d z y h.round, stands.members.vectors, length-set y.vectors m own)
+    inside_k = omega (arith, in_k, maintainers_stay load d z y h.round, stands.membership.members.vectors, length-set y.vectors m own)
 
     whole : (maintainer_at y.maintainers m).epochs ≡ t
     whole = All-get_or (λ (x : MaintainerState Record). x.epochs ≡ t) y.maintainers m no_maintainer (omega (arith, in_m, maintainers_stay load d z y h.round)) h.placed.maintainers
 
     known : All (λ v. IsPrefix v.epochs t) y.vectors
-    known = All-weaker (IsTruePair t (IsFilledIn y.maintainers)) (λ (v : Pair). IsPrefix v.epochs t) (λ v is_true. is_true.known) y.vectors stands.heads
+    known = All-weaker (IsTruePair t (IsFilledIn y.maintainers)) (λ (v : Pair). IsPrefix v.epochs t) (λ v is_true. is_true.known) y.vectors stands.coverage.heads
 
     knows_m : Knows t y.maintainers m own
     knows_m = knows_taken t y.maintainers m (vector_at y.vectors m) (maintainer_at y.maintainers m).epochs whole (All-get_or (λ (v : Pair). IsPrefix v.epochs t) y.vectors m (blank no_epochs) inside_m known)
-        (omega (arith, (All-get_or (λ (v : Pair). AreMarks v.marks) y.vectors m (blank no_epochs) inside_m stands.marked).size, in_m, maintainers_stay load d z y h.round, stands.members.ranges.maintainers.1))
+        (omega (arith, (All-get_or (λ (v : Pair). AreMarks v.marks) y.vectors m (blank no_epochs) inside_m stands.coverage.marked).size, in_m, maintainers_stay load d z y h.round, stands.membership.members.ranges.maintainers.1))
 
     own_prefix : IsPrefix own.epochs t
     own_prefix = subst (λ e. IsPrefix e t) (sym knows_m.epochs) (prefix_refl t)
@@ -155,7 +155,7 @@ module _ (load : Workload) (d : ℕ) (z : Datacentre) where
         after,
         All-from_get_or (λ (v : Pair). head v ≡ x.token.last) x.vectors (blank no_epochs)
             (λ k in_k. head_whole after.round.live.standing.world d x stands_x after.placed (vector_at x.vectors k)
-            (All-get_or (IsTruePair x.token.epochs (IsFilledIn x.maintainers)) x.vectors k (blank no_epochs) in_k stands_x.heads)
+            (All-get_or (IsTruePair x.token.epochs (IsFilledIn x.maintainers)) x.vectors k (blank no_epochs) in_k stands_x.coverage.heads)
             (λ m in_m. gossip_all.makes y (m, k) h
-            (m, omega (arith, in_m, maintainers_stay load d z x after.round), (k, omega (arith, in_k, stands_x.members.vectors, maintainers_stay load d z x after.round), (refl, refl))))),
+            (m, omega (arith, in_m, maintainers_stay load d z x after.round), (k, omega (arith, in_k, stands_x.membership.members.vectors, maintainers_stay load d z x after.round), (refl, refl))))),
       )

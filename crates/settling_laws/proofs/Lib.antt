@@ -1,3 +1,4 @@
+-- The proofs of what settling does, from one turn to a whole script.
 pub mod Live
 pub mod Walks
 pub mod Progress

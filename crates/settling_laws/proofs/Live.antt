@@ -11,10 +11,12 @@ use Rattle.abstract_log.specs.Runs.{after_all}
 use Rattle.stage_world.specs.Stages.{Datacentre, Stages}
 use Rattle.stage_world.specs.StandsFor.{IsAt, StandsAt}
 use Rattle.stage_world.specs.Whole.{datacentre_at, nowhere_at, with_turn}
-use Rattle.stage_world.specs.Schedules.{IsStep, IsKept, turn_of, step_of, after_steps}
+use Rattle.abstract_log.specs.Turns.{IsStep}
+use Rattle.stage_world.specs.Schedules.{IsKept, turn_of, step_of, after_steps}
 use Rattle.stage_world.proofs.AllTurns.{step_kept}
 use Rattle.settling_laws.specs.Rounds.{IsStanding}
-use Rattle.log_laws.proofs.LawfulAfter.{lawful_after, workload_stays}
+use Rattle.log_laws.proofs.LawfulAfter.{lawful_after}
+use Rattle.log_laws.proofs.LimitedRuns.{workload_stays}
 
 -- the step is a turn of a local round of datacentre d
 abbrev pub IsTurnAt : Workload → ℕ → Step → Type 0

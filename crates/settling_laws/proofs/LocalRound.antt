@@ -9,7 +9,7 @@ use Rattle.abstract_log.specs.declared.script.Sizes.{Sizes}
 use Rattle.stage_world.specs.Stages.{Datacentre, Stages, sizes_of}
 use Rattle.stage_world.specs.Opening.{numbered}
 use Rattle.stage_world.specs.Whole.{datacentre_at}
-use Rattle.stage_world.specs.Schedules.{IsStep}
+use Rattle.abstract_log.specs.Turns.{IsStep}
 use Rattle.stage_world.specs.Settling.{below, clients, flushes, passes, ring, places, gossips, posts, local_round}
 use Rattle.settling_laws.specs.Rounds.{HasSameMembers, IsRounded, IsStanding, IsSettledByRound}
 use Rattle.settling_laws.proofs.Live.{IsTurnAt, IsLive, IsWalk, turned, walked, walked-append, walk, turn_good, in_stages}

@@ -9,7 +9,8 @@ use Rattle.abstract_log.specs.declared.script.Step.{Step}
 use Rattle.toid_filter.proofs.Tests.{any_gives}
 use Rattle.stage_world.specs.Stages.{Stages}
 use Rattle.stage_world.specs.Whole.{datacentre_at, nowhere_at}
-use Rattle.stage_world.specs.Schedules.{IsStep, after_steps}
+use Rattle.abstract_log.specs.Turns.{IsStep}
+use Rattle.stage_world.specs.Schedules.{after_steps}
 use Rattle.stage_world.specs.Settling.{has_unanswered, is_answering, answering_rounds, after_passes, turns_of_passes}
 use Rattle.settling_laws.specs.Rounds.{HasSameMembers, IsRounded, IsStanding, left_at, left_in, EndsAnswering}
 use Rattle.settling_laws.proofs.Live.{IsLive}

@@ -49,17 +49,17 @@ module _ (w : World) (d : ℕ) (z : Datacentre) (h : StandsAt w d z) (placed : I
   filled_there : (q m : ℕ) → m < length z.maintainers → owner t q ≡ m → IsFilledIn z.maintainers q → IsFilled (at m) q
   filled_there q m within own some =
       let found = some_term (times_filled q) z.maintainers no_maintainer some in
-      let owns : OwnsAll t (at found.0) = All-get_or (OwnsAll t) z.maintainers found.0 no_maintainer found.1 h.owned.maintainers in
+      let owns : OwnsAll t (at found.0) = All-get_or (OwnsAll t) z.maintainers found.0 no_maintainer found.1 h.membership.owned.maintainers in
       let its : Owns t (at found.0) q = owns_filled t (at found.0) q owns found.2 in
-      let same : found.0 ≡ m = sym (h.owned.numbers found.0 found.1) ∙ sym its.own ∙ ap (λ e. owner e q) (epochs_at found.0 found.1) ∙ own in
+      let same : found.0 ≡ m = sym (h.membership.owned.numbers found.0 found.1) ∙ sym its.own ∙ ap (λ e. owner e q) (epochs_at found.0 found.1) ∙ own in
       subst (λ i. IsFilled (at i) q) same found.2
 
   -- its mark is above each own position of the log
   pub mark_above : (p m : ℕ) → m < length z.maintainers → 1 ≤ p → p ≤ z.token.last → owner t p ≡ m → p < mark_of (at m)
   mark_above p m within first low own = (is_mark (at m)).greatest p (record {
-    here = record { first = first; owner = ap (λ e. owner e p) (epochs_at m within) ∙ own ∙ sym (h.owned.numbers m within) };
+    here = record { first = first; owner = ap (λ e. owner e p) (epochs_at m within) ∙ own ∙ sym (h.membership.owned.numbers m within) };
     all = λ q up is_own.
-        filled_there q m within (ap (λ e. owner e q) (sym (epochs_at m within)) ∙ is_own.owner ∙ h.owned.numbers m within) (placed.filled q is_own.first (omega arith));
+        filled_there q m within (ap (λ e. owner e q) (sym (epochs_at m within)) ∙ is_own.owner ∙ h.membership.owned.numbers m within) (placed.filled q is_own.first (omega arith));
   })
 
   -- a pair that knows all has the head at the end of the log
@@ -67,11 +67,11 @@ module _ (w : World) (d : ℕ) (z : Datacentre) (h : StandsAt w d z) (placed : I
   head_whole v is_true knows =
       let high : head v ≤ length (log_of w d) = true_head_within w d z v h is_true in
       let low : z.token.last ≤ head v = head_most v (head v) z.token.last (head_is v) (λ p first up. below p first up) in
-      omega (arith, h.counted.whole)
+      omega (arith, h.positions.counted.whole)
     where
       below : (p : ℕ) → 1 ≤ p → p ≤ z.token.last → IsBelowMark v p
       below p first up =
-          let inside : owner t p < length z.maintainers = omega (arith, owner_member t p h.members.dealt, h.members.maintainers) in
+          let inside : owner t p < length z.maintainers = omega (arith, owner_member t p h.membership.members.dealt, h.membership.members.maintainers) in
           let k : Knows t z.maintainers (owner t p) v = knows (owner t p) inside in
           let mine : owner v.epochs p ≡ owner t p = ap (λ e. owner e p) k.epochs in
           subst (λ i. p < mark_at v i) (sym mine) (omega (arith, mark_above p (owner t p) inside first up refl, k.mark))

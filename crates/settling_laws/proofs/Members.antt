@@ -2,10 +2,12 @@
 use Rattle.std.proofs.Common.{◌≡◌, ℕ, ◌+◌, Bool, ltb, eqb, ◌&&◌, cond, List, [], ◌∷◌, ◌++◌, length, map, refl, ap, ap₂, sym, subst, ◌∙◌, inl, inr, arith}
 use Rattle.std.proofs.lemmas.List.{length-set, length-map, get_or-map, get_or_past}
 use Rattle.std.proofs.lemmas.Bool.{cases_lt, cond_both}
+use Rattle.causal_deps.specs.declared.record.Place.{Place as RecordPlace}
 use Rattle.causal_deps.specs.declared.record.Record.{Record}
 use Rattle.causal_deps.specs.declared.record.Item.{Item}
 use Rattle.causal_deps.specs.declared.record.Item.TheVariants.{Local, External}
 use Rattle.abstract_log.specs.declared.command.Workload.{Workload}
+use Rattle.abstract_log.specs.Answers.{place_at}
 use Rattle.abstract_log.specs.declared.script.Step.{Step}
 use Rattle.abstract_log.specs.declared.script.Step.TheVariants.{Client, Flush, Pass, Stamp, Token, Place, Gossip, Post, Learn}
 use Rattle.abstract_log.specs.declared.script.Outcome.TheVariants.{Absent, NoToken}
@@ -14,7 +16,7 @@ use Rattle.maintainer.specs.Maintainers.{learned, moved_in}
 use Rattle.token_queue.specs.Queues.{tokenless, stamped_queue, outbox_for, without_outbox}
 use Rattle.stage_world.specs.Stages.{Datacentre, Session, sizes_of, batcher_at, queue_at, maintainer_at, indexer_at, slot_of}
 use Rattle.stage_world.specs.StandsFor.{numbers_of}
-use Rattle.stage_world.specs.Turns.{Turned, quiet, where_there, at_session, acknowledged, sessions_after, all_acknowledged, flush_turn, flushed, pass_turn, passed_on, stamped, stamp_turn, stamp_events, stamp_outcome, drained, token_turn, place_turn, placed_from, gossip_turn, gossiped}
+use Rattle.stage_world.specs.Turns.{Turned, quiet, where_there, at_session, acked, sessions_after, all_acknowledged, flush_turn, flushed, pass_turn, passed_on, stamped, stamp_turn, stamp_events, stamp_outcome, drained, token_turn, place_turn, placed_from, gossip_turn, gossiped}
 use Rattle.stage_world.specs.MoreTurns.{posted, posted_to, post_turn, learn_turn}
 use Rattle.stage_world.proofs.SessionLemmas.{numbers-at_session}
 use Rattle.stage_world.proofs.FlushTurn.{length-taken}
@@ -55,8 +57,8 @@ there_goes : (b : Bool) (z : Datacentre) (t : Turned) → GoesTo z t.after → G
 there_goes b z t goes = cond_both b t (quiet Absent z) (λ u. GoesTo z u.after) (λ _. goes) (λ _. goes_nowhere z)
 
 -- a session whose write is stamped went on
-acknowledged_goes : (p : ℕ) (r : Record) (x : Session) → GoesOn x (acknowledged p r x)
-acknowledged_goes p r x = record {
+acked_goes : (place : RecordPlace) (x : Session) → GoesOn x (acked place x)
+acked_goes place x = record {
   less = omega (arith, drop_less work_of x.commands x.standing.answered);
   writes = λ h. inr (omega (arith, drop_next work_of x.commands x.standing.answered h.command h.is, h.fresh));
 }
@@ -82,9 +84,9 @@ told_same xs = record { numbers = refl; commands = refl; goes = λ k. goes_same 
 
 told_one : (item : Item) (p : ℕ) (r : Record) (xs : List Session) → AreToldOf xs (sessions_after item p r xs)
 told_one (Local draft) p r xs = record {
-  numbers = numbers-at_session draft.session (acknowledged p r) xs (λ x. refl);
-  commands = commands-at_session draft.session (acknowledged p r) xs (λ x. refl);
-  goes = sessions_go draft.session (acknowledged p r) xs (acknowledged_goes p r);
+  numbers = numbers-at_session draft.session (acked (place_at p r)) xs (λ x. refl);
+  commands = commands-at_session draft.session (acked (place_at p r)) xs (λ x. refl);
+  goes = sessions_go draft.session (acked (place_at p r)) xs (acked_goes (place_at p r));
 }
 told_one (External e) p r xs = told_same xs
 

@@ -169,7 +169,7 @@ module _ (load : Workload) where
       let y1 : Stages = after_steps load y us in
       let of_z = errand_run load z hz x good in
       let of_y = errand_run load y hy x (good_there z y x same good) in
-      let rest : All (IsErrand load z1) xs = All-weaker (IsErrand load z) (IsErrand load z1) (λ u. errand_stays load z z1 u of_z.beside) xs (All-tail (IsErrand load z) x xs all) in
+      let rest : All (IsErrand load z1) xs = All-weaker (IsErrand load z) (IsErrand load z1) (λ u. errand_stays load z z1 u of_z.beside.each) xs (All-tail (IsErrand load z) x xs all) in
       ap (λ (s : Stages). s.datacentres) (after_steps-append load ts (exchange load z1 xs) z)
       ∙ exchange_same xs z1 y1 of_z.leads.standing of_y.leads.standing (errand_same z y hz hy x same good) rest
       ∙ ap (λ (s : Stages). s.datacentres) (sym (after_steps-append load us (exchange load y1 xs) y))

@@ -90,7 +90,7 @@ module _ (load : Workload) (d : ℕ) (z : Datacentre) where
 
     new_epochs : new_m.epochs ≡ y.token.epochs
     new_epochs =
-        let old : OwnsAll y.token.epochs (maintainer_at y.maintainers m) = All-get_or (OwnsAll y.token.epochs) y.maintainers m no_maintainer inside_m stands.owned.maintainers in
+        let old : OwnsAll y.token.epochs (maintainer_at y.maintainers m) = All-get_or (OwnsAll y.token.epochs) y.maintainers m no_maintainer inside_m stands.membership.owned.maintainers in
         (has_taken (learned (maintainer_at y.maintainers m) (queue_at y.queues q).epochs) (map slot_of (outbox_for (queue_at y.queues q) m))).epochs
         ∙ ap (longer (maintainer_at y.maintainers m).epochs) whole_q ∙ longer_whole y.token.epochs (maintainer_at y.maintainers m).epochs old.known
 
@@ -154,13 +154,13 @@ module _ (load : Workload) (d : ℕ) (z : Datacentre) where
     ]
       where
         dealt : IsDealtBy y.token.epochs (queue_at y.queues q)
-        dealt = All-get_or (IsDealtBy y.token.epochs) y.queues q no_queue in_q stands_y.owned.queues
+        dealt = All-get_or (IsDealtBy y.token.epochs) y.queues q no_queue in_q stands_y.membership.owned.queues
 
         none_of : (es : List Entry) → All (λ e. (owner (queue_at y.queues q).epochs e.lid ≡ m) × IsSettled y.token.epochs (queue_at y.queues q).epochs e.lid) es → length y.maintainers ≤ m → es ≡ []
         none_of [] all past = refl
         none_of (e ∷ es) all past =
             let own = All-head (λ (x : Entry). (owner (queue_at y.queues q).epochs x.lid ≡ m) × IsSettled y.token.epochs (queue_at y.queues q).epochs x.lid) e es all in
-            absurd (omega (arith, past, own.0, owner-prefix (queue_at y.queues q).epochs y.token.epochs e.lid dealt.known own.1, owner_member y.token.epochs e.lid stands_y.members.dealt, stands_y.members.maintainers))
+            absurd (omega (arith, past, own.0, owner-prefix (queue_at y.queues q).epochs y.token.epochs e.lid dealt.known own.1, owner_member y.token.epochs e.lid stands_y.membership.members.dealt, stands_y.membership.members.maintainers))
 
     outboxes_empty : All (λ q. All (λ es. es ≡ []) q.outboxes) y.queues
     outboxes_empty = All-from_get_or (λ (q : QueueState). All (λ es. es ≡ []) q.outboxes) y.queues no_queue (λ q in_q. All-from_get_or (λ (es : List Entry). es ≡ []) (queue_at y.queues q).outboxes [] (λ m _. outbox_empty q m in_q))
@@ -173,11 +173,11 @@ module _ (load : Workload) (d : ℕ) (z : Datacentre) where
       queues = h.epochs;
       outboxes = outboxes_empty;
       maintainers = All-from_get_or (λ (m : MaintainerState Record). m.epochs ≡ y.token.epochs) y.maintainers no_maintainer
-          (λ m in_m. (taken 0 m (omega (arith, stands_y.members.ranges.queues.0)) in_m).epochs);
+          (λ m in_m. (taken 0 m (omega (arith, stands_y.membership.members.ranges.queues.0)) in_m).epochs);
       filled = λ p first low.
           let here : position_in (log_of h.round.live.standing.world d) p ≡ 1 = cond-true (leb 1 p && leb p (length (log_of h.round.live.standing.world d))) 1 0
-          (and_from (leb 1 p) (leb p (length (log_of h.round.live.standing.world d))) (le-leb 1 p first) (le-leb p (length (log_of h.round.live.standing.world d)) (omega (arith, low, stands_y.counted.whole)))) in
-          omega (arith, stands_y.placed.once p, none_waits p y.queues outboxes_empty, here);
+          (and_from (leb 1 p) (leb p (length (log_of h.round.live.standing.world d))) (le-leb 1 p first) (le-leb p (length (log_of h.round.live.standing.world d)) (omega (arith, low, stands_y.positions.counted.whole)))) in
+          omega (arith, stands_y.positions.placed.once p, none_waits p y.queues outboxes_empty, here);
     }
 
   -- All of them.

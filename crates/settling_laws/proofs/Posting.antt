@@ -79,27 +79,27 @@ module _ (load : Workload) (d : ℕ) (z : Datacentre) where
     whole = All-get_or (λ (n : MaintainerState Record). n.epochs ≡ t) y.maintainers m no_maintainer inside_m h.round.placed.maintainers
 
     indexed : IsTruePair t (IsFilledIn y.maintainers) old.pair × IsIndexedAt (log_of w d) (length y.indexers) old
-    indexed = All-get_or (λ (n : IndexerState). IsTruePair t (IsFilledIn y.maintainers) n.pair × IsIndexedAt (log_of w d) (length y.indexers) n) y.indexers i no_indexer inside_i stands.indexers
+    indexed = All-get_or (λ (n : IndexerState). IsTruePair t (IsFilledIn y.maintainers) n.pair × IsIndexedAt (log_of w d) (length y.indexers) n) y.indexers i no_indexer inside_i stands.coverage.indexers
 
     -- a gone position of m is below the indexer's mark of m
     gone_below : (p : ℕ) → Contains x.gone p → p < mark_at old.pair m
     gone_below p has =
         let counted : 1 ≤ times p x.gone = position_counts p x.gone has in
         let all : 1 ≤ gone_times p y.maintainers = omega (arith, get_or-le-sum_by (λ (n : MaintainerState Record). times p n.gone) y.maintainers m no_maintainer inside_m) in
-        let low = stands.aware.below p (omega (arith, all, stands.placed.collected p)) in
-        let covered : y.floor ≤ head old.pair = All-get_or (λ (n : IndexerState). y.floor ≤ head n.pair) y.indexers i no_indexer inside_i stands.below.covered in
+        let low = stands.knowledge.aware.below p (omega (arith, all, stands.positions.placed.collected p)) in
+        let covered : y.floor ≤ head old.pair = All-get_or (λ (n : IndexerState). y.floor ≤ head n.pair) y.indexers i no_indexer inside_i stands.knowledge.below.covered in
         let some : 1 ≤ filled p y.maintainers = omega (arith, counted, get_or-le-sum_by (times_filled p) y.maintainers m no_maintainer inside_m) in
         let first : 1 ≤ p = first_of p some in
         let j : ℕ = owner old.pair.epochs p in
         let below : p < mark_at old.pair j = head_below old.pair p first (omega (arith, low.1, covered)) in
         let by_all : owner t p ≡ j = below_mark t t (IsFilledIn y.maintainers) old.pair j p indexed.0 (prefix_refl t) indexed.0.known.shorter below in
-        let owns : OwnsAll t x = All-get_or (OwnsAll t) y.maintainers m no_maintainer inside_m stands.owned.maintainers in
+        let owns : OwnsAll t x = All-get_or (OwnsAll t) y.maintainers m no_maintainer inside_m stands.membership.owned.maintainers in
         let its : Owns t x p = All-contains (Owns t x) x.gone p owns.gone has in
-        let same : j ≡ m = sym by_all ∙ ap (λ e. owner e p) (sym whole) ∙ its.own ∙ stands.owned.numbers m inside_m in
+        let same : j ≡ m = sym by_all ∙ ap (λ e. owner e p) (sym whole) ∙ its.own ∙ stands.membership.owned.numbers m inside_m in
         subst (λ k. p < mark_at old.pair k) same below
       where
         first_of : (q : ℕ) → 1 ≤ filled q y.maintainers → 1 ≤ q
-        first_of zero some = absurd (omega (arith, some, stands.placed.once 0))
+        first_of zero some = absurd (omega (arith, some, stands.positions.placed.once 0))
         first_of (suc q) some = omega arith
 
     abbrev test : ℕ → Bool
@@ -133,7 +133,7 @@ module _ (load : Workload) (d : ℕ) (z : Datacentre) where
         (λ was. subst (Knows t y.maintainers pair.0) (sym new_pair) (knows_own t y.maintainers pair.0 old.pair x.epochs m (mark_of x) whole was)) e)
 
     knows_m : Knows t y.maintainers m new.pair
-    knows_m = subst (Knows t y.maintainers m) (sym new_pair) (knows_taken t y.maintainers m old.pair x.epochs whole indexed.0.known (omega (arith, indexed.1.has.size, in_m, maintainers_stay load d z y h.round.round, stands.members.ranges.maintainers.1)))
+    knows_m = subst (Knows t y.maintainers m) (sym new_pair) (knows_taken t y.maintainers m old.pair x.epochs whole indexed.0.known (omega (arith, indexed.1.has.size, in_m, maintainers_stay load d z y h.round.round, stands.membership.members.ranges.maintainers.1)))
 
     post_makes : (pair : ℕ × ℕ) → pair.0 ≡ m → pair.1 ≡ i → Covers pair (turned d y (Post d m i))
     post_makes pair at_m at_i = subst (Covers pair) (sym is)
@@ -165,7 +165,7 @@ module _ (load : Workload) (d : ℕ) (z : Datacentre) where
         after,
         All-from_get_or (λ (n : IndexerState). head n.pair ≡ v.token.last) v.indexers no_indexer
             (λ i in_i. head_whole u d v stands_v after.round.placed (indexer_at v.indexers i).pair
-            (All-get_or (λ (n : IndexerState). IsTruePair v.token.epochs (IsFilledIn v.maintainers) n.pair × IsIndexedAt (log_of u d) (length v.indexers) n) v.indexers i no_indexer in_i stands_v.indexers).0
+            (All-get_or (λ (n : IndexerState). IsTruePair v.token.epochs (IsFilledIn v.maintainers) n.pair × IsIndexedAt (log_of u d) (length v.indexers) n) v.indexers i no_indexer in_i stands_v.coverage.indexers).0
             (λ m in_m. post_all.makes y (m, i) h
             (m, omega (arith, in_m, maintainers_stay load d z v after.round.round), (i, omega (arith, in_i, indexers_stay load d z v after.round.round), (refl, refl))))),
       )
@@ -180,8 +180,8 @@ module _ (load : Workload) (d : ℕ) (z : Datacentre) where
       let before : StandsAt h.round.round.live.standing.world d y = stands_at load d y h.round.round.live in
       let after : StandsAt u d v = stands_at load d v round.live in
       let first : head (vector_at y.vectors 0) ≡ y.token.last = h.heads 0 _ (some_vector h.round.round.live.standing.world d y before) in
-      let learnt : v.learnt ≡ v.token.last = omega (arith, first, before.below.learnt) in
-      let all : take v.learnt (log_of u d) ≡ log_of u d = take_all v.learnt (log_of u d) (omega (arith, learnt, after.counted.whole)) in (
+      let learnt : v.learnt ≡ v.token.last = omega (arith, first, before.knowledge.below.learnt) in
+      let all : take v.learnt (log_of u d) ≡ log_of u d = take_all v.learnt (log_of u d) (omega (arith, learnt, after.positions.counted.whole)) in (
         record {
           round = round;
           drained = drained_beside y y.vectors y.indexers v.table v.learnt h.round.drained;
@@ -191,6 +191,6 @@ module _ (load : Workload) (d : ℕ) (z : Datacentre) where
           heads = h.heads;
           covered = covered;
           learnt = learnt;
-          own = λ g. after.aware.own g ∙ ap (λ log. count_of log g) all ∙ sym (after.counted.each g);
+          own = λ g. after.knowledge.aware.own g ∙ ap (λ log. count_of log g) all ∙ sym (after.positions.counted.each g);
         },
       )

@@ -21,7 +21,8 @@ use Rattle.stage_world.specs.MarkTurns.{mark_turn, ask_next, activate_all}
 use Rattle.toid_filter.specs.Champions.{last_share}
 use Rattle.stage_world.specs.LinkTurns.{Moved, still, moved_at, with_link, put_in_link, send_turn, link_length, has_lost}
 use Rattle.stage_world.specs.Whole.{datacentre_at, link_at, nowhere_at, with_turn}
-use Rattle.stage_world.specs.Schedules.{IsStep, place_of_step, turn_of, step_of, after_steps}
+use Rattle.abstract_log.specs.Turns.{IsStep, place_of_step}
+use Rattle.stage_world.specs.Schedules.{turn_of, step_of, after_steps}
 use Rattle.stage_world.specs.Opening.{opening, opening_at, one_of_each}
 use Rattle.stage_world.proofs.OpeningLemmas.{get_or-numbered}
 use Rattle.settling_laws.specs.Rounds.{IsStanding}

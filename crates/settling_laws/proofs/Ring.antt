@@ -64,7 +64,7 @@ module _ (load : Workload) (d : ℕ) (z : Datacentre) (l : IsLive load d z) wher
     pub deferred : 1 ≤ i → All (λ item. is_ready y.token.counts item ≡ false) y.token.deferred
 
   some : 0 < n
-  some = omega (arith, (stands_at load d z l).members.ranges.queues.0)
+  some = omega (arith, (stands_at load d z l).membership.members.ranges.queues.0)
 
   holds : (i : ℕ) (y : Datacentre) → IsRound i y → turned d y (Stamp d (at i)) ≡ stamped y (at i)
   holds i y h =
@@ -108,7 +108,7 @@ module _ (load : Workload) (d : ℕ) (z : Datacentre) (l : IsLive load d z) wher
       let x : Datacentre = token_moved (stamped y (at i)) in
       let one : IsInRound load d z (turned d y (Stamp d (at i))) = round_goes load d z y (Stamp d (at i)) refl h.round in
       let both : IsInRound load d z (walked d y (turn_at i)) = round_goes load d z (turned d y (Stamp d (at i))) (Token d) refl one in
-      let ringed : y.token.queues ≡ n = (stands_at load d y h.round.live).members.queues ∙ queues_stay load d z y h.round in
+      let ringed : y.token.queues ≡ n = (stands_at load d y h.round.live).membership.members.queues ∙ queues_stay load d z y h.round in
       let next : (y.token.at + 1) % y.token.queues ≡ at (suc i) =
       ap (λ m. (y.token.at + 1) % m) ringed ∙ ap (λ k. (k + 1) % n) h.token ∙ mod-add-mod (z.token.at + i) n 1 ∙ ap (λ k. k % n) (omega arith) in
       record {
@@ -125,7 +125,7 @@ module _ (load : Workload) (d : ℕ) (z : Datacentre) (l : IsLive load d z) wher
       → IsInRound load d z (walked d y (ring d z)) × IsDrained (walked d y (ring d z)) × All (λ q. q.epochs ≡ (walked d y (ring d z)).token.epochs) (walked d y (ring d z)).queues
   ring_drains y h flat out =
       let x : Datacentre = walked d y (ring d z) in
-      let holder : z.token.at < n = (stands_at load d z l).members.holder in
+      let holder : z.token.at < n = (stands_at load d z l).membership.members.holder in
       let none_more : z.token.at + 0 ≡ z.token.at = omega arith in
       let first : IsRound 0 y = record {
         round = h.round;

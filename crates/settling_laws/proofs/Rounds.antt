@@ -8,7 +8,8 @@ use Rattle.abstract_log.specs.declared.command.Workload.{Workload}
 use Rattle.abstract_log.specs.declared.script.Step.{Step}
 use Rattle.stage_world.specs.Stages.{Datacentre, Stages}
 use Rattle.stage_world.specs.Whole.{datacentre_at}
-use Rattle.stage_world.specs.Schedules.{IsStep, after_steps}
+use Rattle.abstract_log.specs.Turns.{IsStep}
+use Rattle.stage_world.specs.Schedules.{after_steps}
 use Rattle.stage_world.specs.Settling.{below, local_round, rounds}
 use Rattle.settling_laws.specs.Rounds.{IsStanding}
 use Rattle.settling_laws.proofs.Live.{IsTurnAt, IsWalk, walked, walk, turn_good, in_stages, steps_stand}

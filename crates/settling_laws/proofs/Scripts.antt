@@ -13,7 +13,8 @@ use Rattle.abstract_log.specs.Worlds.{start}
 use Rattle.log_laws.proofs.LimitedRuns.{laws_of_run, workload_is}
 use Rattle.log_laws.proofs.Runs.{after_all-append}
 use Rattle.stage_world.specs.Opening.{opening}
-use Rattle.stage_world.specs.Schedules.{IsStep, step_of, after_steps, events_of}
+use Rattle.abstract_log.specs.Turns.{IsStep}
+use Rattle.stage_world.specs.Schedules.{step_of, after_steps, events_of}
 use Rattle.stage_world.specs.Settling.{IsSettling}
 use Rattle.stage_world.specs.Stages.{Stages}
 use Rattle.stage_world.proofs.AllTurns.{schedule}

@@ -20,12 +20,14 @@ use Rattle.stage_world.specs.Stages.{Datacentre, Session, Stages}
 use Rattle.stage_world.specs.StandsFor.{StandsAt}
 use Rattle.stage_world.specs.MoreTurns.{same_counts}
 use Rattle.stage_world.specs.Whole.{StandsFor, datacentre_at, nowhere_at}
-use Rattle.stage_world.specs.Schedules.{IsStep, IsKept, step_of, after_steps, events_of}
+use Rattle.abstract_log.specs.Turns.{IsStep}
+use Rattle.stage_world.specs.Schedules.{IsKept, step_of, after_steps, events_of}
 use Rattle.stage_world.specs.Settling.{is_unanswered, has_unanswered, is_answering, is_agreed, is_unfinished, all_rounds, answering_rounds, telling_rounds, after_passes, turns_of_passes, IsLoop, IsSettling}
 use Rattle.stage_world.proofs.AllTurns.{step_kept}
 use Rattle.settling_laws.specs.Rounds.{IsStanding, EndsAnswering}
 use Rattle.settling_laws.specs.Ending.{AreQuiet, EndsTelling, EndsSettling, IsFinishedBy}
-use Rattle.log_laws.proofs.LawfulAfter.{lawful_after, workload_stays, kept_of}
+use Rattle.log_laws.proofs.LawfulAfter.{lawful_after, kept_of}
+use Rattle.log_laws.proofs.LimitedRuns.{workload_stays}
 use Rattle.settling_laws.proofs.Live.{steps_stand}
 use Rattle.settling_laws.proofs.Rounds.{after_steps-append}
 use Rattle.settling_laws.proofs.Loop.{answering_ends_at, answering_steps}
@@ -95,7 +97,7 @@ finished_where load z h answered same = record {
     dcs_are = ap (λ (l : Workload). l.dcs) h.workload
 
     counts : (d e g : ℕ) → d < load.dcs → e < load.dcs → count_of (log_of h.world d) g ≡ count_of (log_of h.world e) g
-    counts d e g in_d in_e = sym ((stands_here load z d in_d h).counted.each g) ∙ same d e g in_d in_e ∙ (stands_here load z e in_e h).counted.each g
+    counts d e g in_d in_e = sym ((stands_here load z d in_d h).positions.counted.each g) ∙ same d e g in_d in_e ∙ (stands_here load z e in_e h).positions.counted.each g
 
     have : (d e g t : ℕ) → d < h.world.workload.dcs → t ≤ count_of (log_of h.world e) g → 1 ≤ t → t ≤ count_of (log_of h.world d) g
     have d e g t in_d counted first = elim (cases_lt e load.dcs) [
@@ -128,12 +130,12 @@ finished_where load z h answered same = record {
         let in_h : home < load.dcs = omega (arith, h.lawful.shape.workload.homes s in_load, dcs_are) in
         let v : Datacentre = datacentre_at z home in
         let stands : StandsAt h.world home v = stands_here load z home in_h h in
-        let there = stands.present s (record { there = in_load; home = refl }) in
+        let there = stands.clients.present s (record { there = in_load; home = refl }) in
         let k : ℕ = there.0 in
         let inside : k < length v.sessions = omega (arith, there.1, length-map v.sessions (λ (x : Session). x.number)) in
         let x : Session = get_or v.sessions k (record { number = 0; commands = []; standing = standing_of h.world s; pin = None; found = [] }) in
         let number : x.number ≡ s = sym (get_or-map (λ (y : Session). y.number) v.sessions k (record { number = 0; commands = []; standing = standing_of h.world s; pin = None; found = [] }) s inside) ∙ there.2 in
-        let far = stands.sessions k (record { number = 0; commands = []; standing = standing_of h.world s; pin = None; found = [] }) inside in
+        let far = stands.clients.sessions k (record { number = 0; commands = []; standing = standing_of h.world s; pin = None; found = [] }) inside in
         let idle : has_unanswered v ≡ false = none_any has_unanswered z.datacentres answered home nowhere_at (omega (arith, in_h, dcs_of load z h)) in
         let done : length x.commands ≤ x.standing.answered = ltb-false x.standing.answered (length x.commands) (none_any is_unanswered v.sessions idle k (record { number = 0; commands = []; standing = standing_of h.world s; pin = None; found = [] }) inside) in
         let standing : x.standing ≡ standing_of h.world s = far.standing ∙ ap (standing_of h.world) number in
@@ -150,7 +152,7 @@ last_round load z h ended new ts r =
     let each : (d g : ℕ) → d < load.dcs → get_or (datacentre_at new d).token.counts g 0 ≡ writes_at load.sessions g = λ d g within.
     let was : count_of (log_of h.world d) g ≡ writes_at load.sessions g = whole.each d g (omega (arith, within, ap (λ (l : Workload). l.dcs) h.workload)) ∙ ap (λ (l : Workload). writes_at l.sessions g) h.workload in
     let most : count_of (log_of hn.world d) g ≤ writes_at load.sessions g = subst (λ (l : Workload). count_of (log_of hn.world d) g ≤ writes_at l.sessions g) hn.workload (hn.lawful.numbers d g) in
-    omega (arith, was, most, extends_counts (log_of h.world d) (log_of hn.world d) g (r.leads.behind.logs d), (stands_here load new d within hn).counted.each g) in
+    omega (arith, was, most, extends_counts (log_of h.world d) (log_of hn.world d) g (r.leads.behind.logs d), (stands_here load new d within hn).positions.counted.each g) in
     (no_answers load new hn (omega (arith, no_left z parts.0, r.no_more)), λ d e g in_d in_e. each d g in_d ∙ sym (each e g in_e))
   where
     from_not : (b : Bool) → not b ≡ false → b ≡ true

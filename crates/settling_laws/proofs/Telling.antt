@@ -26,10 +26,10 @@ abbrev pub total : Stages → ℕ
 total z = sum_by (λ (x : Datacentre). x.token.last) z.datacentres
 
 last_at : (load : Workload) (z : Stages) (d : ℕ) → d < load.dcs → (h : IsStanding load z) → (datacentre_at z d).token.last ≡ length (log_of h.world d)
-last_at load z d within h = (stands_here load z d within h).counted.whole
+last_at load z d within h = (stands_here load z d within h).positions.counted.whole
 
 count_at : (load : Workload) (z : Stages) (d g : ℕ) → d < load.dcs → (h : IsStanding load z) → get_or (datacentre_at z d).token.counts g 0 ≡ count_of (log_of h.world d) g
-count_at load z d g within h = (stands_here load z d within h).counted.each g
+count_at load z d g within h = (stands_here load z d within h).positions.counted.each g
 
 -- a later log is as long at least
 last_up : (load : Workload) (y z : Stages) (hy : IsStanding load y) (hz : IsStanding load z) (d : ℕ) → d < load.dcs → IsBehind hy.world hz.world → (datacentre_at y d).token.last ≤ (datacentre_at z d).token.last
@@ -73,22 +73,22 @@ module _ (load : Workload) (s0 s1 s2 s3 : Stages) (h0 : IsStanding load s0) (ts0
 
   -- exchanges leave the tokens
   token_1 : (d : ℕ) → (datacentre_at s1 d).token ≡ (datacentre_at t0.mid d).token
-  token_1 d = ap (λ (v : Datacentre). v.token) (t0.swapped.beside d).rest
+  token_1 d = ap (λ (v : Datacentre). v.token) (t0.swapped.beside.each d).rest
 
   token_2 : (d : ℕ) → (datacentre_at s2 d).token ≡ (datacentre_at t1.mid d).token
-  token_2 d = ap (λ (v : Datacentre). v.token) (t1.swapped.beside d).rest
+  token_2 d = ap (λ (v : Datacentre). v.token) (t1.swapped.beside.each d).rest
 
   -- no announcement comes
   quiet_2 : AreQuiet load t2.mid
   quiet_2 d within =
-      (t2.rounded.members d within).announcement ∙ ap (λ (v : Datacentre). v.announcement) (t1.swapped.beside d).rest
-      ∙ (t1.rounded.members d within).announcement ∙ ap (λ (v : Datacentre). v.announcement) (t0.swapped.beside d).rest
+      (t2.rounded.members d within).announcement ∙ ap (λ (v : Datacentre). v.announcement) (t1.swapped.beside.each d).rest
+      ∙ (t1.rounded.members d within).announcement ∙ ap (λ (v : Datacentre). v.announcement) (t0.swapped.beside.each d).rest
       ∙ (t0.rounded.members d within).announcement ∙ quiet d within
 
   -- where the second pass's rounds bring no record, its tables know what each log has
   knows : total t1.mid ≤ total s1 → (d e g : ℕ) → d < load.dcs → e < load.dcs → d ≢ e → count_of (log_of g1.world e) g ≤ entry_of (datacentre_at t1.mid d).table e g
   knows still d e g in_d in_e apart =
-      let first : 0 < (datacentre_at t0.mid e).senders = omega (arith, (stands_here load t0.mid e in_e g0).members.ranges.senders.0) in
+      let first : 0 < (datacentre_at t0.mid e).senders = omega (arith, (stands_here load t0.mid e in_e g0).membership.members.ranges.senders.0) in
       let x : Errand = record { from = e; to = d; sender = 0 } in
       let own : entry_of (datacentre_at t0.mid e).table e g ≡ get_or (datacentre_at t0.mid e).token.counts g 0 = (t0.rounded.rounded e in_e).told.own g in
       let told : entry_of (datacentre_at t0.mid e).table e g ≤ entry_of (datacentre_at s1 d).table e g = t0.swapped.told x (errand_there load t0.mid g0 e d 0 in_e in_d (λ same. absurd (apart (sym same))) first) refl e g in
@@ -99,8 +99,8 @@ module _ (load : Workload) (s0 s1 s2 s3 : Stages) (h0 : IsStanding load s0) (ts0
         ap (λ t. get_or t.counts g 0) (token_1 e),
         count_at load s1 e g in_e h1,
         counts_stay load s1 t1.mid h1 g1 t1.rounded.leads.behind still e g in_e,
-        ap (λ t. entry_of t e g) (stands_here load s1 d in_d h1).aware.same,
-        ap (λ t. entry_of t e g) (stands_here load t1.mid d in_d g1).aware.same,
+        ap (λ t. entry_of t e g) (stands_here load s1 d in_d h1).knowledge.aware.same,
+        ap (λ t. entry_of t e g) (stands_here load t1.mid d in_d g1).knowledge.aware.same,
         t1.rounded.leads.behind.tables d e g,
       )
 
@@ -116,7 +116,7 @@ module _ (load : Workload) (s0 s1 s2 s3 : Stages) (h0 : IsStanding load s0) (ts0
       let at_d : datacentre_at s2 d ≡ row.0 = get_or_default s2.datacentres d nowhere_at row.0 row.1.1 ∙ row.1.2 in
       let at_e : datacentre_at s2 e ≡ cell.0 = get_or_default s2.datacentres e nowhere_at cell.0 cell.1.1 ∙ cell.1.2 in
       let sizes : length row.0.token.counts ≡ length cell.0.token.counts =
-      ap (λ (v : Datacentre). length v.token.counts) (sym at_d) ∙ (stands_here load s2 d in_d h2).counted.size ∙ sym (stands_here load s2 e in_e h2).counted.size ∙ ap (λ (v : Datacentre). length v.token.counts) at_e in
+      ap (λ (v : Datacentre). length v.token.counts) (sym at_d) ∙ (stands_here load s2 d in_d h2).positions.counted.size ∙ sym (stands_here load s2 e in_e h2).positions.counted.size ∙ ap (λ (v : Datacentre). length v.token.counts) at_e in
       let place = differ_at row.0.token.counts cell.0.token.counts sizes cell.2 in
       let g : ℕ = place.0 in
       let of_d : get_or row.0.token.counts g 0 ≡ count_of (log_of g1.world d) g = ap (λ (v : Datacentre). get_or v.token.counts g 0) (sym at_d) ∙ ap (λ t. get_or t.counts g 0) (token_2 d) ∙ count_at load t1.mid d g in_d g1 in

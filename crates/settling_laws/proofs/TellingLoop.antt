@@ -12,7 +12,7 @@ use Rattle.toid_filter.proofs.Tests.{any_gives}
 use Rattle.stage_world.specs.Stages.{Datacentre, Session, Stages}
 use Rattle.stage_world.specs.StandsFor.{StandsAt}
 use Rattle.stage_world.specs.Whole.{datacentre_at, nowhere_at}
-use Rattle.stage_world.specs.Schedules.{IsStep}
+use Rattle.abstract_log.specs.Turns.{IsStep}
 use Rattle.stage_world.specs.Settling.{is_unanswered, has_unanswered, is_answering, is_agreed, is_unfinished, telling_rounds, after_passes, turns_of_passes}
 use Rattle.settling_laws.specs.Rounds.{IsStanding, left_to, left_at, left_in}
 use Rattle.settling_laws.specs.Ending.{AreQuiet, EndsTelling, most_passes}
@@ -54,14 +54,14 @@ no_answers load z h none = at (is_answering z) refl
         let at_k : x ≡ some.0 = get_or_default v.sessions k no_session some.0 some.1.1 ∙ some.1.2 in
         let behind : x.standing.answered < length x.commands = subst (λ (y : Session). y.standing.answered < length y.commands) (sym at_k) (ltb-true some.0.standing.answered (length some.0.commands) some.2) in
         let stands : StandsAt h.world d v = stands_here load z d (omega (arith, one.1.1, dcs_of load z h)) h in
-        let left : 1 ≤ left_to x = left_some h.world.workload h.world.sessions (log_of h.world d) d v.floor x (stands.sessions k no_session some.1.1) behind in
+        let left : 1 ≤ left_to x = left_some h.world.workload h.world.sessions (log_of h.world d) d v.floor x (stands.clients.sessions k no_session some.1.1) behind in
         absurd (omega (arith, none, left, get_or-le-sum_by left_to v.sessions k no_session some.1.1, get_or-le-sum_by left_at z.datacentres d nowhere_at one.1.1))
 
 -- no log is longer than the limits allow
 total_most : (load : Workload) (z : Stages) → IsStanding load z → total z ≤ load.dcs * 16384
 total_most load z h =
     let most : total z ≤ length z.datacentres * 16384 = sum_by-le (λ (x : Datacentre). x.token.last) 16384 z.datacentres (All-from_get_or (λ (x : Datacentre). x.token.last ≤ 16384) z.datacentres nowhere_at
-    (λ d inside. omega (arith, (stands_here load z d (omega (arith, inside, dcs_of load z h)) h).counted.whole, h.lawful.few d))) in
+    (λ d inside. omega (arith, (stands_here load z d (omega (arith, inside, dcs_of load z h)) h).positions.counted.whole, h.lawful.few d))) in
     omega (arith, most, ap (λ n. n * 16384) (dcs_of load z h))
 
 module _ (load : Workload) (z : Stages) (h : IsStanding load z) where
@@ -82,11 +82,11 @@ module _ (load : Workload) (z : Stages) (h : IsStanding load z) where
   -- what one pass keeps
   less_left : (y new : Stages) (g : IsStanding load y) (ts : List Step) → IsTelling load y g new ts → left_in new ≤ left_in y
   less_left y new g ts t =
-      let same : (d : ℕ) → left_at (datacentre_at new d) ≡ left_at (datacentre_at t.mid d) = λ d. ap left_at (t.swapped.beside d).rest in
-      omega (arith, t.rounded.no_more, sum_less left_at t.mid.datacentres new.datacentres nowhere_at t.swapped.datacentres (λ d inside. omega (arith, same d)))
+      let same : (d : ℕ) → left_at (datacentre_at new d) ≡ left_at (datacentre_at t.mid d) = λ d. ap left_at (t.swapped.beside.each d).rest in
+      omega (arith, t.rounded.no_more, sum_less left_at t.mid.datacentres new.datacentres nowhere_at t.swapped.beside.datacentres (λ d inside. omega (arith, same d)))
 
   still_quiet : (y new : Stages) (g : IsStanding load y) (ts : List Step) → IsTelling load y g new ts → AreQuiet load y → AreQuiet load new
-  still_quiet y new g ts t quiet d within = ap (λ (v : Datacentre). v.announcement) (t.swapped.beside d).rest ∙ (t.rounded.members d within).announcement ∙ quiet d within
+  still_quiet y new g ts t quiet d within = ap (λ (v : Datacentre). v.announcement) (t.swapped.beside.each d).rest ∙ (t.rounded.members d within).announcement ∙ quiet d within
 
   module _ (quiet : AreQuiet load z) (answered : is_answering z ≡ false) where
     quiet_at : (n : ℕ) → AreQuiet load (at n)

@@ -20,7 +20,8 @@ use Rattle.stage_world.specs.StandsFor.{StandsAt, IsSafe, gone_times}
 use Rattle.stage_world.specs.MoreTurns.{stocked}
 use Rattle.stage_world.specs.Opening.{numbered}
 use Rattle.stage_world.specs.Whole.{datacentre_at, nowhere_at}
-use Rattle.stage_world.specs.Schedules.{IsStep, after_steps}
+use Rattle.abstract_log.specs.Turns.{IsStep}
+use Rattle.stage_world.specs.Schedules.{after_steps}
 use Rattle.stage_world.specs.Settling.{Errand, below, rounds, all_rounds, errands, exchange_turns, telling_rounds}
 use Rattle.stage_world.proofs.ListLemmas.{Contains-head}
 use Rattle.settling_laws.specs.Rounds.{HasSameMembers, IsRounded, IsStanding, left_at, left_in}
@@ -155,23 +156,23 @@ sender_of load z h e m in_e rounded knows =
     let p : ℕ = place.0 + 1 in
     let back : p - 1 ≡ place.0 = omega arith in
     let at_p : slice_get (log_of w d) (p - 1) ≡ Some r = ap (slice_get (log_of w d)) back ∙ place.1 in
-    let low : p ≤ v.token.last = omega (arith, slice_get_within (log_of w d) place.0 r place.1, stands.counted.whole) in
+    let low : p ≤ v.token.last = omega (arith, slice_get_within (log_of w d) place.0 r place.1, stands.positions.counted.whole) in
     let filled = (rounded d in_d).placed.filled p (omega arith) low in
     let none : gone_times p v.maintainers ≡ 0 = elim (cases_lt 0 (gone_times p v.maintainers)) [
       | inr zeroth ↦ omega (arith, zeroth)
       | inl some ↦
-          let safe : IsSafe w.workload.dcs (log_of w d) v.table v.floor p = stands.safe p (omega (arith, some, stands.placed.collected p)) in
+          let safe : IsSafe w.workload.dcs (log_of w d) v.table v.floor p = stands.knowledge.safe p (omega (arith, some, stands.positions.placed.collected p)) in
           let same : safe.rec ≡ r = same_Some safe.rec r (sym safe.stands ∙ at_p) in
           let known : safe.rec.toid ≤ entry_of v.table e safe.rec.host = safe.known e (omega (arith, in_e, ap (λ (l : Workload). l.dcs) h.workload)) in
           let of_r : r.toid ≤ entry_of v.table e d = subst (λ (q : Record). q.toid ≤ entry_of v.table e q.host) same known in
-          absurd (omega (arith, of_r, ap (λ t. entry_of t e d) stands.aware.same, h.lawful.tables d e d, h.lawful.own_rows e d, m.next))
+          absurd (omega (arith, of_r, ap (λ t. entry_of t e d) stands.knowledge.aware.same, h.lawful.tables d e d, h.lawful.own_rows e d, m.next))
     ] in
     let entry = some_entry p v.maintainers filled none in
     let ms : MaintainerState Record = entry.0 in
     let slot : Slot Record = entry.2.0 in
     let k : ℕ = ms.number % v.senders in
-    let in_k : k < v.senders = mod-lt ms.number (omega (arith, stands.members.ranges.senders.0)) in
-    let is_entry : IsEntryOf (log_of w d) slot = All-contains (IsEntryOf (log_of w d)) ms.entries slot (All-contains (λ (x : MaintainerState Record). All (IsEntryOf (log_of w d)) x.entries) v.maintainers ms stands.placed.entries entry.1) entry.2.1 in
+    let in_k : k < v.senders = mod-lt ms.number (omega (arith, stands.membership.members.ranges.senders.0)) in
+    let is_entry : IsEntryOf (log_of w d) slot = All-contains (IsEntryOf (log_of w d)) ms.entries slot (All-contains (λ (x : MaintainerState Record). All (IsEntryOf (log_of w d)) x.entries) v.maintainers ms stands.positions.placed.entries entry.1) entry.2.1 in
     let its : slot.value ≡ r = same_Some slot.value r (sym is_entry.stands ∙ ap (λ q. slice_get (log_of w d) (q - 1)) entry.2.2 ∙ at_p) in (
       record { from = d; to = e; sender = k },
       errand_there load z h d e k in_d in_e m.apart in_k,

@@ -1,5 +1,6 @@
 -- How settling ends.
 use Rattle.std.specs.Prelude.{◌≡◌, ℕ, ◌+◌, ◌*◌, ◌<◌, ◌≤◌, ◌++◌, List, All, None}
+use Rattle.cz_base.specs.declared.limits.TheConstants.{COMMANDS}
 use Rattle.abstract_log.specs.declared.command.Workload.{Workload}
 use Rattle.abstract_log.specs.declared.script.Script.{Script}
 use Rattle.abstract_log.specs.declared.script.Step.{Step}
@@ -9,7 +10,8 @@ use Rattle.abstract_log.specs.Runs.{CanAllHappen, IsFinished, IsRun, after_all, 
 use Rattle.stage_world.specs.Opening.{opening}
 use Rattle.stage_world.specs.Stages.{Stages}
 use Rattle.stage_world.specs.Whole.{datacentre_at}
-use Rattle.stage_world.specs.Schedules.{IsStep, after_steps, events_of}
+use Rattle.abstract_log.specs.Turns.{IsStep}
+use Rattle.stage_world.specs.Schedules.{after_steps, events_of}
 use Rattle.stage_world.specs.Settling.{is_unfinished, telling_rounds, IsLoop, IsSettling}
 
 -- no announcement is on
@@ -23,7 +25,7 @@ IsCalm step = Unit {0}
 
 -- how many passes of telling there are at most: two for each record that a log may get, and four
 abbrev pub most_passes : Workload → ℕ
-most_passes load = 2 * (load.dcs * 16384) + 4
+most_passes load = 2 * (load.dcs * COMMANDS) + 4
 
 -- The rounds of telling end.
 pub record EndsTelling (load : Workload) (z : Stages) : Type 0 where

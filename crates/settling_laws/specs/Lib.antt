@@ -1,2 +1,3 @@
+-- What the rounds of settling leave, and how settling ends.
 pub mod Rounds
 pub mod Ending

@@ -12,7 +12,8 @@ use Rattle.token_queue.specs.Items.{is_ready}
 use Rattle.stage_world.specs.Stages.{Datacentre, Session, Stages, sizes_of, IsFilledIn}
 use Rattle.stage_world.specs.StandsFor.{keys_of, numbers_of}
 use Rattle.stage_world.specs.Whole.{StandsFor, datacentre_at}
-use Rattle.stage_world.specs.Schedules.{IsStep, after_steps}
+use Rattle.abstract_log.specs.Turns.{IsStep}
+use Rattle.stage_world.specs.Schedules.{after_steps}
 use Rattle.stage_world.specs.Settling.{local_round, is_answering, answering_rounds, IsLoop}
 
 -- Nothing is on its way to the log, but for records that a filter holds, and items that wait for what they depend on: none of

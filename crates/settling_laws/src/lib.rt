@@ -4,6 +4,9 @@
 //! (`Settling` in `stage_world`); here stands what they do. A local round of a datacentre brings all that may go there into the
 //! log, places it, and tells every maintainer, indexer and the table of it. So each further round answers a command or finds
 //! a key at every session that waits, and the rounds of answering end.
+//!
+//! The theorem for the layer above: `settling_ends`, and `settled_worlds_are_finished`. So code that takes these turns comes to an
+//! end and leaves a finished world, whatever a script without announcements did before. That code is in `world`, with its tests.
 #![tactic(auto)]
 
 mod laws;

@@ -1,1 +1,2 @@
+-- What the cases need beyond computing.
 mod Ranges

@@ -3,7 +3,7 @@ use Rattle.std.proofs.Common.{rules}
 use Rattle.std.proofs.lemmas.List.Elements.{All-from_recursion}
 use Rattle.abstract_log.specs.declared.script.Script.{Script}
 use Rattle.abstract_log.specs.Runs.{IsRun}
-use Rattle.stage_world.specs.Schedules.{IsStep}
+use Rattle.abstract_log.specs.Turns.{IsStep}
 use Rattle.stage_world.proofs.AllTurns.{schedule}
 use Rattle.stage_cases.specs.Pieces.{events_in}
 use Rattle.stage_cases.specs.Fitting.{IsInRange}

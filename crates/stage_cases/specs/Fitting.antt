@@ -2,7 +2,7 @@
 use Rattle.std.specs.Prelude.{All}
 use Rattle.abstract_log.specs.declared.script.Script.{Script}
 use Rattle.abstract_log.specs.Fits.{FitsScript}
-use Rattle.stage_world.specs.Schedules.{IsStep}
+use Rattle.abstract_log.specs.Turns.{IsStep}
 
 pub record IsInRange (script : Script) : Type 0 where
   pub fits : FitsScript script

@@ -1,3 +1,4 @@
+-- The scripts of the cases, and what they are to give.
 pub mod Pieces
 pub mod Reading
 pub mod Linking

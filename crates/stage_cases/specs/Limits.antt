@@ -6,7 +6,9 @@ use Rattle.abstract_log.specs.declared.script.Script.{Script}
 use Rattle.abstract_log.specs.declared.script.Sizes.{Sizes}
 use Rattle.abstract_log.specs.declared.script.Step.TheVariants.{Send, Copy, Announce, AddMaintainer, AddBatcher, AddQueue, AddSender, AddReceiver}
 use Rattle.abstract_log.specs.declared.command.Workload.{Workload}
-use Rattle.stage_world.specs.Opening.{one_of_each, numbered}
+use Rattle.stage_world.specs.Opening.{one_of_each, numbered, opening}
+use Rattle.stage_world.specs.Schedules.{after_steps}
+use Rattle.stage_world.specs.Stages.{Stages}
 use Rattle.stage_cases.specs.Pieces.{dc_a, dc_b}
 
 abbrev pub no_commands : Workload
@@ -23,6 +25,10 @@ full_link_script = record {
 
 abbrev pub full_link_answers : List Outcome
 full_link_answers = numbered (λ i. Sent [] (i + 1) false) 64 ++ Sent [] 64 true ∷ Copied 64 true ∷ []
+
+-- the link once it is full of messages that say the same
+abbrev pub full_of_equals : Stages
+full_of_equals = after_steps no_commands (opening full_link_script) (replicate 64 (Send dc_b 0 dc_a))
 
 -- Each stage has sixteen members at most: of sixteen additions the last finds no room. So does a filter more for a host that sixteen serve.
 abbrev pub sixteen_filters : Sizes

@@ -151,9 +151,9 @@ module _ (w : World) (d : ℕ) (z : Datacentre) (lawful : IsLawful w) (h : Stand
   -- what stands at a position is the log's
   kept_is : (p : ℕ) (r : Record) → record_kept ms p ≡ Some r → record_at log p ≡ Some r
   kept_is p r is =
-      let entries : All (IsEntryOf log) (flat_map (λ (m : MaintainerState Record). m.entries) ms) = All-flat_map (IsEntryOf log) ms h.placed.entries in
+      let entries : All (IsEntryOf log) (flat_map (λ (m : MaintainerState Record). m.entries) ms) = All-flat_map (IsEntryOf log) ms h.positions.placed.entries in
       let count : 1 ≤ times_in p (flat_map (λ (m : MaintainerState Record). m.entries) ms) = value_at-filled p r (flat_map (λ (m : MaintainerState Record). m.entries) ms) is in
-      let once : waiting_in p z.queues + filled p ms ≡ position_in log p = h.placed.once p in
+      let once : waiting_in p z.queues + filled p ms ≡ position_in log p = h.positions.placed.once p in
       let some : 1 ≤ position_in log p = omega (arith, count, times_in-flat_map p ms, once) in
       let first : 1 ≤ p = grind (arith, nat_tests, some) in
       record_at_below log p first ∙ sym (value_at-log log p (flat_map (λ (m : MaintainerState Record). m.entries) ms) count entries) ∙ is
@@ -165,7 +165,7 @@ module _ (w : World) (d : ℕ) (z : Datacentre) (lawful : IsLawful w) (h : Stand
     | inr none ↦
         let count : 1 ≤ times_in p (flat_map (λ (m : MaintainerState Record). m.entries) ms) = omega (arith, some, none, times_in-flat_map p ms) in
         let within : p ≤ length log = filled_within w d z p h some in
-        let is : record_kept ms p ≡ slice_get log (p - 1) = value_at-log log p (flat_map (λ (m : MaintainerState Record). m.entries) ms) count (All-flat_map (IsEntryOf log) ms h.placed.entries) in
+        let is : record_kept ms p ≡ slice_get log (p - 1) = value_at-log log p (flat_map (λ (m : MaintainerState Record). m.entries) ms) count (All-flat_map (IsEntryOf log) ms h.positions.placed.entries) in
         inr (subst (λ o. IsSome o) (sym (is ∙ slice_get-get_or log (p - 1) no_record (omega (arith, first, within)))) refl)
   ]
 
@@ -176,7 +176,7 @@ module _ (w : World) (d : ℕ) (z : Datacentre) (lawful : IsLawful w) (h : Stand
       by_record None is = refl
       by_record (Some r) is =
           let count : 1 ≤ times_in p (flat_map (λ (m : MaintainerState Record). m.entries) ms) = value_at-filled p r (flat_map (λ (m : MaintainerState Record). m.entries) ms) is in
-          absurd (omega (arith, count, gone_counts p ms gone, times_in-flat_map p ms, one_at_most log p (waiting_in p z.queues) (filled p ms) (h.placed.once p)))
+          absurd (omega (arith, count, gone_counts p ms gone, times_in-flat_map p ms, one_at_most log p (waiting_in p z.queues) (filled p ms) (h.positions.placed.once p)))
 
   gone_small : (p : ℕ) → Contains (gone_in ms) p → p < 2 ^ 48
   gone_small p gone = omega (arith, filled_within w d z p h (omega (arith, gone_counts p ms gone, times_in-flat_map p ms)), lawful.few d)
@@ -186,11 +186,11 @@ module _ (w : World) (d : ℕ) (z : Datacentre) (lawful : IsLawful w) (h : Stand
   home_at key some =
       let k : ℕ = home key (length z.indexers) in
       let same : k + 0 ≡ k = omega arith in
-      ap (λ o. unwrap_or o no_indexer) (ap (λ n. find (λ (i : IndexerState). eqb i.number n) z.indexers) (sym same) ∙ find_at 0 k z.indexers (λ i within. h.numbered i within ∙ omega arith) (mod-lt (sum key) some))
+      ap (λ o. unwrap_or o no_indexer) (ap (λ n. find (λ (i : IndexerState). eqb i.number n) z.indexers) (sym same) ∙ find_at 0 k z.indexers (λ i within. h.coverage.numbered i within ∙ omega arith) (mod-lt (sum key) some))
 
   newest_kept : (v : Pair) (g : Floored) (key : List ℕ) (s p : ℕ) → g.floor ≡ z.floor → g.floor ≤ s → s ≤ covered_for (shelf_of v ms z.indexers g) key → newest log key s ≡ Some p → IsSome (record_kept ms p)
   newest_kept v g key s p floor low covered is =
-      let some : 1 ≤ length z.indexers = h.members.ranges.indexers.0 in
+      let some : 1 ≤ length z.indexers = h.membership.members.ranges.indexers.0 in
       let reached : s ≤ head (home_of z key).pair = omega (arith, covered, covered_is v ms z.indexers g some key, ap (λ (i : IndexerState). head i.pair) (home_at key some)) in
       let within : s ≤ length log = omega (arith, reached, ap (λ (i : IndexerState). head i.pair) (home_at key some), home_within key some) in
       let stands = newest_record log key s p is in
@@ -199,17 +199,17 @@ module _ (w : World) (d : ℕ) (z : Datacentre) (lawful : IsLawful w) (h : Stand
     where
       home_within : (key : List ℕ) → 1 ≤ length z.indexers → head (indexer_at z.indexers (home key (length z.indexers))).pair ≤ length log
       home_within key some = pair_within (indexer_at z.indexers (home key (length z.indexers))).pair
-          (All-get_or (λ (i : IndexerState). IsTruePair z.token.epochs (IsFilledIn ms) i.pair × IsIndexedAt log (length z.indexers) i) z.indexers (home key (length z.indexers)) no_indexer (mod-lt (sum key) some) h.indexers).0
+          (All-get_or (λ (i : IndexerState). IsTruePair z.token.epochs (IsFilledIn ms) i.pair × IsIndexedAt log (length z.indexers) i) z.indexers (home key (length z.indexers)) no_indexer (mod-lt (sum key) some) h.coverage.indexers).0
 
   -- what the stages make shows the log
   pub shows_log : (k : ℕ) (g : Floored) → k < length z.vectors → g.floor ≡ z.floor → ((n s : ℕ) → pin_of g n ≡ Some s → g.floor ≤ s) → ShowsLog (vector_at z.vectors k) ms z.indexers g log
   shows_log k g within floor pins =
-      let truth : IsTruePair z.token.epochs (IsFilledIn ms) (vector_at z.vectors k) = All-get_or (IsTruePair z.token.epochs (IsFilledIn ms)) z.vectors k (blank no_epochs) within h.heads in
+      let truth : IsTruePair z.token.epochs (IsFilledIn ms) (vector_at z.vectors k) = All-get_or (IsTruePair z.token.epochs (IsFilledIn ms)) z.vectors k (blank no_epochs) within h.coverage.heads in
       record {
         within = pair_within (vector_at z.vectors k) truth;
         indexers = λ i inside.
-            let its = All-get_or (λ (x : IndexerState). IsTruePair z.token.epochs (IsFilledIn ms) x.pair × IsIndexedAt log (length z.indexers) x) z.indexers i no_indexer inside h.indexers in
-            record { number = h.numbered i inside; members = its.1.members; indexed = its.1.has; within = pair_within (indexer_at z.indexers i).pair its.0 };
+            let its = All-get_or (λ (x : IndexerState). IsTruePair z.token.epochs (IsFilledIn ms) x.pair × IsIndexedAt log (length z.indexers) x) z.indexers i no_indexer inside h.coverage.indexers in
+            record { number = h.coverage.numbered i inside; members = its.1.members; indexed = its.1.has; within = pair_within (indexer_at z.indexers i).pair its.0 };
         kept = kept_is;
         filled = λ p first high. gone_or_kept p first (head_filled z.token.epochs (IsFilledIn ms) (vector_at z.vectors k) p truth first high);
         apart = gone_alone;
@@ -220,11 +220,11 @@ module _ (w : World) (d : ℕ) (z : Datacentre) (lawful : IsLawful w) (h : Stand
 
   module _ (x : SessionState) (has : Contains z.sessions x) where
     far : IsAsFar w.workload w.sessions log d z.floor x
-    far = All-contains (IsAsFar w.workload w.sessions log d z.floor) z.sessions x h.sessions has
+    far = All-contains (IsAsFar w.workload w.sessions log d z.floor) z.sessions x h.clients.sessions has
 
     -- a session whose turn is that of a write may take it
     pub may_write : writes x ≡ true → MayWrite x.number x z.batchers
-    may_write is = record { number = refl; writes = is; batcher = h.members.ranges.batchers.0 }
+    may_write is = record { number = refl; writes = is; batcher = h.membership.members.ranges.batchers.0 }
 
     -- what it has found is the log's
     pub has_found : HasFound log x
@@ -249,9 +249,9 @@ module _ (w : World) (d : ℕ) (z : Datacentre) (lawful : IsLawful w) (h : Stand
       number = refl;
       small = small_number;
       reads = reads;
-      some = h.served.0;
+      some = h.coverage.served.0;
       vector = served;
-      indexers = h.members.ranges.indexers;
+      indexers = h.membership.members.ranges.indexers;
       pin = pin;
       log = log;
       shows = shows_at lent g same floor pins;
@@ -259,7 +259,7 @@ module _ (w : World) (d : ℕ) (z : Datacentre) (lawful : IsLawful w) (h : Stand
     }
       where
         served : x.number % z.first < length z.vectors
-        served = omega (arith, mod-lt x.number h.served.0, h.served.1)
+        served = omega (arith, mod-lt x.number h.coverage.served.0, h.coverage.served.1)
 
         shows_at : (ns : List (MaintainerState Record)) (f : Floored) → map plain ns ≡ ms → f.floor ≡ z.floor → ((n s : ℕ) → pin_of f n ≡ Some s → f.floor ≤ s) → ShowsLog (vector_at z.vectors (x.number % z.first)) ns z.indexers f log
         shows_at ns f alike low all = shows_lent (vector_at z.vectors (x.number % z.first)) ns z.indexers f log (subst (λ us. ShowsLog (vector_at z.vectors (x.number % z.first)) us z.indexers f log) (sym alike) (shows_log (x.number % z.first) f served low all))

@@ -31,16 +31,16 @@ one_key Put tags key is = ap (λ ts. length ts) (key refl).1
 
 pub may_collect_at : (w : World) (d : ℕ) (z : Datacentre) (m : ℕ) → m < length z.maintainers → IsLawful w → StandsAt w d z → MayCollect (length z.table) z.indexers (maintainer_at z.maintainers m).entries
 may_collect_at w d z m within lawful h =
-    let entries : All (IsEntryOf (log_of w d)) (maintainer_at z.maintainers m).entries = All-get_or (λ (x : MaintainerState Record). All (IsEntryOf (log_of w d)) x.entries) z.maintainers m no_maintainer within h.placed.entries in
+    let entries : All (IsEntryOf (log_of w d)) (maintainer_at z.maintainers m).entries = All-get_or (λ (x : MaintainerState Record). All (IsEntryOf (log_of w d)) x.entries) z.maintainers m no_maintainer within h.positions.placed.entries in
     record {
       records = λ k e inside.
           let slot : Slot Record = get_or (maintainer_at z.maintainers m).entries k e in
           let valid : IsValid w.workload.dcs slot.value = All-at_place (IsValid w.workload.dcs) (log_of w d) (slot.lid - 1) slot.value (lawful.valid d) (entries k e inside).stands in
-          record { host = omega (arith, valid.host, h.aware.square.rows); key = one_key slot.value.kind slot.value.tags valid.key };
+          record { host = omega (arith, valid.host, h.knowledge.aware.square.rows); key = one_key slot.value.kind slot.value.tags valid.key };
       homes = record {
-        some = h.members.ranges.indexers.0;
-        few = h.members.ranges.indexers.1;
-        each = λ i inside. (h.numbered i inside, (h.indexers i no_indexer inside).1.members);
+        some = h.membership.members.ranges.indexers.0;
+        few = h.membership.members.ranges.indexers.1;
+        each = λ i inside. (h.coverage.numbered i inside, (h.coverage.indexers i no_indexer inside).1.members);
       };
     }
 

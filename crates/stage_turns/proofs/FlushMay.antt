@@ -18,10 +18,10 @@ of_host w d hosts (External r) same due = (omega (arith, same, due.valid.host), 
 pub may_flush : (w : World) (d : ℕ) (z : Datacentre) (b : ℕ) → b < length z.batchers → StandsAt w d z → MayFlush z.map z.filters (batcher_at z.batchers b)
 may_flush w d z b there h =
     let all : All (IsDue w.workload w.sessions w.logs (pending_of w d) d) (batcher_at z.batchers b) =
-    All-get_or (All (IsDue w.workload w.sessions w.logs (pending_of w d) d)) z.batchers b [] there h.under_way.due.batchers in
+    All-get_or (All (IsDue w.workload w.sessions w.logs (pending_of w d) d)) z.batchers b [] there h.items.under_way.due.batchers in
     record {
-      serving = record { one_map = h.sound.one_map; numbers = h.sound.numbers; there = h.sound.there; few = h.members.ranges.filters.1 };
-      of_hosts = λ k e within. of_host w d (length z.map) (get_or (batcher_at z.batchers b) k e) (sym h.mapped) (all k e within);
+      serving = record { one_map = h.items.sound.one_map; numbers = h.items.sound.numbers; there = h.items.sound.there; few = h.membership.members.ranges.filters.1 };
+      of_hosts = λ k e within. of_host w d (length z.map) (get_or (batcher_at z.batchers b) k e) (sym h.items.mapped) (all k e within);
     }
 
 -- where the lent queue has the token or not, what it has after a pass is seen as the turn leaves it

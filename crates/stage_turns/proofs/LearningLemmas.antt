@@ -177,16 +177,16 @@ module _ (w : World) (d : ℕ) (z : Datacentre) (lawful : IsLawful w) (h : Stand
       let k : ℕ = owner v.epochs p in
       let below : p < mark_at v k = head_below v p (omega arith) high in
       let settled : IsSettled t v.epochs p = All-weaker (λ (n : Epoch). mark_at v k ≤ n.start) (λ (n : Epoch). p < n.start) (λ n within. omega arith) (later_than v.epochs t) (first.settled k) in
-      let all : OwnsAll t m = All-get_or (OwnsAll t) z.maintainers i no_maintainer at.1 h.owned.maintainers in
+      let all : OwnsAll t m = All-get_or (OwnsAll t) z.maintainers i no_maintainer at.1 h.membership.owned.maintainers in
       let owns : Owns t m p = owns_filled t m p all at.2 in
-      let number : m.number ≡ i = h.owned.numbers i at.1 in
+      let number : m.number ≡ i = h.membership.owned.numbers i at.1 in
       let same : i ≡ k = sym number ∙ sym owns.own ∙ owner-prefix m.epochs t p all.known owns.settled ∙ sym (owner-prefix v.epochs t p first.known settled) in
       let kept : times p (gone_of w d) ≡ 0 = elim (cases_lt 0 (times p (gone_of w d))) [
-        | inl gone ↦ absurd (omega (arith, (h.aware.below p (omega arith)).0))
+        | inl gone ↦ absurd (omega (arith, (h.knowledge.aware.below p (omega arith)).0))
         | inr none ↦ omega arith
       ] in
-      let counted : 1 ≤ times_in p m.entries = omega (arith, at.2, get_or-le-sum_by (λ (x : MaintainerState Record). times p x.gone) z.maintainers i no_maintainer at.1, h.placed.collected p) in
-      let entries : All (IsEntryOf log) m.entries = All-get_or (λ (x : MaintainerState Record). All (IsEntryOf log) x.entries) z.maintainers i no_maintainer at.1 h.placed.entries in
+      let counted : 1 ≤ times_in p m.entries = omega (arith, at.2, get_or-le-sum_by (λ (x : MaintainerState Record). times p x.gone) z.maintainers i no_maintainer at.1, h.positions.placed.collected p) in
+      let entries : All (IsEntryOf log) m.entries = All-get_or (λ (x : MaintainerState Record). All (IsEntryOf log) x.entries) z.maintainers i no_maintainer at.1 h.positions.placed.entries in
       let inside : p - 1 < length log = omega (arith, filled_within w d z p h some) in
       let stands : slice_get log (p - 1) ≡ Some (get_or log (p - 1) no_record) = slice_get-get_or log (p - 1) no_record inside in
       let own : IsOwn m p = record { first = omega arith; owner = owns.own } in
@@ -194,7 +194,7 @@ module _ (w : World) (d : ℕ) (z : Datacentre) (lawful : IsLawful w) (h : Stand
         member = subst (λ j. j < length z.maintainers) same at.1;
         own = subst (λ j. IsOwn (maintainer_at z.maintainers j) p) same own;
         rec = get_or log (p - 1) no_record;
-        host = omega (arith, (All-get_or (IsValid w.workload.dcs) log (p - 1) no_record inside (lawful.valid d)).host, h.aware.square.rows);
+        host = omega (arith, (All-get_or (IsValid w.workload.dcs) log (p - 1) no_record inside (lawful.valid d)).host, h.knowledge.aware.square.rows);
         there = subst (λ j. value_at p (maintainer_at z.maintainers j).entries ≡ Some (get_or log (p - 1) no_record)) same (value_at-log log p m.entries counted entries ∙ stands);
         kept = record_at_filled w d z p h some kept ∙ stands;
       }

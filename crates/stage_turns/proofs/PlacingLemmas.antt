@@ -145,14 +145,14 @@ module _ (w : World) (d : ℕ) (z : Datacentre) (q m : ℕ) (in_q : q < length z
   box = outbox_for old_q m
 
   owns_old : OwnsAll z.token.epochs old_m
-  owns_old = All-get_or (OwnsAll z.token.epochs) z.maintainers m no_maintainer in_m h.owned.maintainers
+  owns_old = All-get_or (OwnsAll z.token.epochs) z.maintainers m no_maintainer in_m h.membership.owned.maintainers
 
   dealt : IsDealtBy z.token.epochs old_q
-  dealt = All-get_or (IsDealtBy z.token.epochs) z.queues q no_queue in_q h.owned.queues
+  dealt = All-get_or (IsDealtBy z.token.epochs) z.queues q no_queue in_q h.membership.owned.queues
 
   stand : All (λ e. IsEntryOf (log_of w d) (slot_of e)) box
   stand = outbox_entries (λ e. IsEntryOf (log_of w d) (slot_of e)) old_q m
-      (All-get_or (λ (x : QueueState). All (λ es. All (λ e. IsEntryOf (log_of w d) (slot_of e)) es) x.outboxes) z.queues q no_queue in_q h.placed.outboxes)
+      (All-get_or (λ (x : QueueState). All (λ es. All (λ e. IsEntryOf (log_of w d) (slot_of e)) es) x.outboxes) z.queues q no_queue in_q h.positions.placed.outboxes)
 
   -- what waits here and what is filled here is once in all
   few_here : (p : ℕ) → times_among p box + times_filled p old_m ≤ 1
@@ -161,14 +161,14 @@ module _ (w : World) (d : ℕ) (z : Datacentre) (q m : ℕ) (in_q : q < length z
     waiting_without p m old_q,
     get_or-le-sum_by (waiting p) z.queues q no_queue in_q,
     get_or-le-sum_by (times_filled p) z.maintainers m no_maintainer in_m,
-    one_at_most (log_of w d) p 0 (waiting_in p z.queues + filled p z.maintainers) (omega (arith, h.placed.once p)),
+    one_at_most (log_of w d) p 0 (waiting_in p z.queues + filled p z.maintainers) (omega (arith, h.positions.placed.once p)),
   )
 
   entry_may : (k : ℕ) (e : Entry) → k < length box → MayPlace (learned old_m old_q.epochs) (get_or box k e)
   entry_may k e within =
       let x : Entry = get_or box k e in
       let own : Owns z.token.epochs (learned old_m old_q.epochs) x.lid =
-      owns_told z.token.epochs old_m old_q.epochs x.lid owns_old.known dealt.known ((dealt.owned m k e within).0 ∙ sym (h.owned.numbers m in_m)) (dealt.owned m k e within).1 in
+      owns_told z.token.epochs old_m old_q.epochs x.lid owns_old.known dealt.known ((dealt.owned m k e within).0 ∙ sym (h.membership.owned.numbers m in_m)) (dealt.owned m k e within).1 in
       let here : IsEntryOf (log_of w d) (slot_of x) = stand k e within in
       record {
         own = record { first = here.first; owner = own.own };
@@ -191,7 +191,7 @@ module _ (w : World) (d : ℕ) (z : Datacentre) (q m : ℕ) (in_q : q < length z
 
 -- a maintainer that is there has a number below 16
 pub member_below : (w : World) (d : ℕ) (z : Datacentre) (m : ℕ) → StandsAt w d z → m < length z.maintainers → m < 16
-member_below w d z m h there = omega (arith, h.members.ranges.maintainers.1)
+member_below w d z m h there = omega (arith, h.membership.members.ranges.maintainers.1)
 
 -- what `place` leaves and answers is the turn of all stages
 pub record IsPlaceTurn (z : Datacentre) (q m : ℕ) (queue : QueueState) (x : MaintainerState Record) (o : Outcome) : Type 0 where

@@ -23,7 +23,7 @@ use Rattle.stage_turns.proofs.ChangeLemmas.{tells_other, tells_same}
 
 pub may_post : (w : World) (d : ℕ) (z : Datacentre) (m i : ℕ) → m < length z.maintainers → i < length z.indexers → StandsAt w d z → MayPost (maintainer_at z.maintainers m) m (indexer_at z.indexers i)
 may_post w d z m i in_m in_i h = record {
-  member = omega (arith, in_m, h.members.ranges.maintainers.1);
+  member = omega (arith, in_m, h.membership.members.ranges.maintainers.1);
   known = known w d z m i in_m in_i h;
   begun = begun w d z m i in_m in_i h;
   own = entries_own w d z m i in_m in_i h;

@@ -130,7 +130,7 @@ module _ (w : World) (d : ℕ) (z : Datacentre) (h : StandsAt w d z) (m : ShelfS
   log = log_of w d
 
   covers : (name : List ℕ) → covered_for m name ≡ head (home_of z name).pair
-  covers name = covers_as z m name covered h.members.ranges.indexers.0 h.numbered
+  covers name = covers_as z m name covered h.membership.members.ranges.indexers.0 h.coverage.numbered
 
   -- an open session x among others, of which it is the one with this number
   module _ (xs ys : List Session) (i : ℕ) (x : Session) (opened_is : x.standing.begun ≡ true) (puts : (f : Session → Session) → at_session x.number f xs ≡ set ys i (f x)) (stays : xs ≡ set ys i x) where
@@ -294,7 +294,7 @@ module _ (w : World) (d : ℕ) (z : Datacentre) (h : StandsAt w d z) (i : ℕ) (
   full : (q : ℕ) → 1 ≤ q → q ≤ head v → IsFilledIn z.maintainers q
   full q first below =
       head_filled z.token.epochs (IsFilledIn z.maintainers) v q
-      (All-get_or (IsTruePair z.token.epochs (IsFilledIn z.maintainers)) z.vectors (x.number % z.first) (blank no_epochs) (omega (arith, mod-lt x.number h.served.0, h.served.1)) h.heads) first below
+      (All-get_or (IsTruePair z.token.epochs (IsFilledIn z.maintainers)) z.vectors (x.number % z.first) (blank no_epochs) (omega (arith, mod-lt x.number h.coverage.served.0, h.coverage.served.1)) h.coverage.heads) first below
 
   head_within : head v ≤ length (log_of w d)
   head_within = elim (cases_lt 0 (head v)) [
@@ -304,11 +304,11 @@ module _ (w : World) (d : ℕ) (z : Datacentre) (h : StandsAt w d z) (i : ℕ) (
 
   shown : (p : ℕ) → 1 ≤ p → shown_at z p (head v) ≡ read_in (log_of w d) (gone_in lent) p (head v)
   shown p first =
-      let gone : times p (gone_of w d) ≡ times p (gone_in lent) = sym (h.placed.collected p) ∙ sym (ap (gone_times p) same) ∙ gone_plain p lent ∙ sym (times_gone p lent) in
+      let gone : times p (gone_of w d) ≡ times p (gone_in lent) = sym (h.positions.placed.collected p) ∙ sym (ap (gone_times p) same) ∙ gone_plain p lent ∙ sym (times_gone p lent) in
       shown_is w d z (head v) p h full first ∙ ap (λ b. cond (ltb (head v) p) Beyond (cond b Gone (shown_record p (record_at (log_of w d) p)))) (any_by_times p (gone_of w d) (gone_in lent) gone)
 
   far : IsAsFar w.workload w.sessions (log_of w d) d z.floor x
-  far = subst (IsAsFar w.workload w.sessions (log_of w d) d z.floor) is (All-get_or (IsAsFar w.workload w.sessions (log_of w d) d z.floor) z.sessions i x within h.sessions)
+  far = subst (IsAsFar w.workload w.sessions (log_of w d) d z.floor) is (All-get_or (IsAsFar w.workload w.sessions (log_of w d) d z.floor) z.sessions i x within h.clients.sessions)
 
   pinned : (c : Command) → next_command x ≡ Some c → (s : ℕ) → x.pin ≡ Some s → MayLook (log_of w d) z.floor x c s
   pinned c next s pin =
@@ -322,7 +322,7 @@ module _ (w : World) (d : ℕ) (z : Datacentre) (h : StandsAt w d z) (i : ℕ) (
       }
 
   changed : (f : Session → Session) → at_session x.number f z.sessions ≡ set z.sessions i (f x)
-  changed f = set_session f z.sessions i x h.ordered within is
+  changed f = set_session f z.sessions i x h.clients.ordered within is
 
   unchanged : z.sessions ≡ set z.sessions i x
   unchanged = sym (ap (set z.sessions i) (sym is) ∙ set-get_or z.sessions i x)

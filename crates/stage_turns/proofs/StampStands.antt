@@ -44,8 +44,8 @@ as_many qs zs seen = ap (λ xs. length xs) (sym seen) ∙ length-map qs tokenles
 pub token_may_move : (w : World) (d : ℕ) (z : Datacentre) (qs : List QueueState) → StandsAt w d z → queues_seen qs ≡ z.queues → HaveToken qs z.token → MayMoveToken qs (token_seen qs)
 token_may_move w d z qs h seen has = subst (MayMoveToken qs) (sym (token_is qs z.token has)) (record {
   has = has;
-  numbers = λ i within. ap (λ (x : QueueState). x.number) (queue_seen qs z.queues i seen) ∙ h.queues.numbers i (omega (arith, within, as_many qs z.queues seen));
-  ring = h.members.queues ∙ as_many qs z.queues seen;
+  numbers = λ i within. ap (λ (x : QueueState). x.number) (queue_seen qs z.queues i seen) ∙ h.membership.queues.numbers i (omega (arith, within, as_many qs z.queues seen));
+  ring = h.membership.members.queues ∙ as_many qs z.queues seen;
 })
 
 one_at_most : (o : Option Draft) → one_of o ≤ 1
@@ -60,13 +60,13 @@ module _ (w : World) (d : ℕ) (z : Datacentre) (q : QueueState) (law : IsLawful
   Due = IsDue w.workload w.sessions w.logs (pending_of w d) d
 
   items_due : All Due q.items
-  items_due = All-same Due q.items (queue_at z.queues at).items same (All-get_or (λ (x : QueueState). All Due x.items) z.queues at no_queue h.members.holder h.under_way.due.queues)
+  items_due = All-same Due q.items (queue_at z.queues at).items same (All-get_or (λ (x : QueueState). All Due x.items) z.queues at no_queue h.membership.members.holder h.items.under_way.due.queues)
 
   fits : (item : Item) → Due item → FitsItem (length z.token.counts) item
   fits (Local draft) due =
       let opened = open_tells w.workload w.sessions d draft.session draft due in
-      ap (λ xs. length xs) opened.tells.dep ∙ law.shape.pasts draft.session opened.there ∙ sym h.counted.size
-  fits (External r) due = (omega (arith, due.valid.host, h.counted.size), due.valid.size ∙ sym h.counted.size)
+      ap (λ xs. length xs) opened.tells.dep ∙ law.shape.pasts draft.session opened.there ∙ sym h.positions.counted.size
+  fits (External r) due = (omega (arith, due.valid.host, h.positions.counted.size), due.valid.size ∙ sym h.positions.counted.size)
 
   new_here : (item : Item) → Due item → IsNewAt d item
   new_here (Local draft) due = tt
@@ -82,7 +82,7 @@ module _ (w : World) (d : ℕ) (z : Datacentre) (q : QueueState) (law : IsLawful
   few_stamped : z.token.last + length (drained_of q z.token).records < 2 ^ 48
   few_stamped =
       let es : List Event = stamp_events d z.token.last (drained z at).stamped (drained z at).records in
-      let whole : z.token.last + length (drained z at).records ≡ length (log_of (after_all w es) d) = holder_keeps.stands.counted.whole in
+      let whole : z.token.last + length (drained z at).records ≡ length (log_of (after_all w es) d) = holder_keeps.stands.positions.counted.whole in
       let count : length (drained_of q z.token).records ≡ length (drained z at).records =
       ap (λ items. length (drain_by z.token.dc z.token.counts (z.token.deferred ++ items)).records) same in
       omega (arith, whole, count, (lawful_after w es law holder_keeps.can).few d)
@@ -103,27 +103,27 @@ module _ (w : World) (d : ℕ) (z : Datacentre) (q : QueueState) (law : IsLawful
   -- a session has one draft at most
   one_draft : (s : ℕ) → sum_by (is_draft_of s) (items_of q z.token) ≤ 1
   one_draft s =
-      let all : under_way (is_draft_of s) z.batchers z.filters z.queues z.token.deferred ≡ one_of (open_draft w.workload w.sessions d s) = h.under_way.drafts s in
+      let all : under_way (is_draft_of s) z.batchers z.filters z.queues z.token.deferred ≡ one_of (open_draft w.workload w.sessions d s) = h.items.under_way.drafts s in
       omega (
         arith,
         all,
         one_at_most (open_draft w.workload w.sessions d s),
         sum_by-append (is_draft_of s) z.token.deferred q.items,
         ap (λ items. sum_by (is_draft_of s) items) same,
-        get_or-le-sum_by (λ (x : QueueState). sum_by (is_draft_of s) x.items) z.queues at no_queue h.members.holder,
+        get_or-le-sum_by (λ (x : QueueState). sum_by (is_draft_of s) x.items) z.queues at no_queue h.membership.members.holder,
       )
 
   pub may_stamp : MayStamp d q z.token z.sessions
   may_stamp = record {
-    here = h.counted.here;
+    here = h.positions.counted.here;
     lids = few_stamped;
     fit = All-weaker Due (FitsItem (length z.token.counts)) fits q.items items_due;
-    new = All-append (IsNewAt d) z.token.deferred q.items (All-weaker Due (IsNewAt d) new_here z.token.deferred h.under_way.due.deferred) (All-weaker Due (IsNewAt d) new_here q.items items_due);
-    ordered = h.ordered;
+    new = All-append (IsNewAt d) z.token.deferred q.items (All-weaker Due (IsNewAt d) new_here z.token.deferred h.items.under_way.due.deferred) (All-weaker Due (IsNewAt d) new_here q.items items_due);
+    ordered = h.clients.ordered;
     pasts = All-weaker (IsAsFar w.workload w.sessions (log_of w d) d z.floor) (λ (x : Session). d < length x.standing.past)
-        (λ x far. omega (arith, h.there, ap (λ (st : Standing). length st.past) far.standing, law.shape.pasts x.number (session_there x far))) z.sessions h.sessions;
+        (λ x far. omega (arith, h.there, ap (λ (st : Standing). length st.past) far.standing, law.shape.pasts x.number (session_there x far))) z.sessions h.clients.sessions;
     few = All-weaker (IsAsFar w.workload w.sessions (log_of w d) d z.floor) (λ (x : Session). x.standing.answered + sum_by (is_draft_of x.number) (items_of q z.token) < 2 ^ 32)
-        (λ x far. omega (arith, answered_few x far, one_draft x.number)) z.sessions h.sessions;
+        (λ x far. omega (arith, answered_few x far, one_draft x.number)) z.sessions h.clients.sessions;
   }
 
 -- A queue that has a token may stamp.

@@ -16,8 +16,9 @@ use Rattle.token_queue.specs.Items.{is_ready, record_from, first_out}
 use Rattle.token_queue.specs.Drain.{Drained, all_deferred, with_first, drain_by_at_most}
 use Rattle.token_queue.specs.Queues.{entries_from, stamp_of}
 use Rattle.token_queue.proofs.ListLemmas.{is_out}
+use Rattle.abstract_log.specs.Answers.{place_at}
 use Rattle.stage_world.specs.Stages.{Session, is_draft_of}
-use Rattle.stage_world.specs.Turns.{at_session, acknowledged, all_acknowledged, sessions_after, stamp_event, stamp_events, place_of_entry}
+use Rattle.stage_world.specs.Turns.{acked, at_session, all_acknowledged, sessions_after, stamp_event, stamp_events, place_of_entry}
 use Rattle.stage_turns.specs.Stamping.{IsNewAt, acked_by, event_of, is_ack_of}
 
 -- the record that an item became at datacentre d
@@ -91,9 +92,9 @@ event_same d p (External e) r is =
 
 sessions_same : (d p : ℕ) (item : Item) (r : Record) (xs : List Session) → IsStampedAs d item r → acked_by d xs (stamp_at p r) ≡ sessions_after item p r xs
 sessions_same d p (Local draft) r xs is =
-    ap (λ b. cond b (at_session r.session (acknowledged p r) xs) xs) (eq-eqb r.host d is.0) ∙ ap (λ s. at_session s (acknowledged p r) xs) is.1.0
+    ap (λ b. cond b (at_session r.session (acked (place_at p r)) xs) xs) (eq-eqb r.host d is.0) ∙ ap (λ s. at_session s (acked (place_at p r)) xs) is.1.0
 sessions_same d p (External e) r xs is =
-    ap (λ b. cond b (at_session r.session (acknowledged p r) xs) xs) (ap (λ (x : Record). eqb x.host d) is.0 ∙ ne_eqb e.host d is.1)
+    ap (λ b. cond b (at_session r.session (acked (place_at p r)) xs) xs) (ap (λ (x : Record). eqb x.host d) is.0 ∙ ne_eqb e.host d is.1)
 
 -- all of them
 pub acks_are_drafts : (d s last : ℕ) (items : List Item) (rs : List Record) → AreStampedAs d items rs → sum_by (is_ack_of d s) (stamps_from last rs) ≡ sum_by (is_draft_of s) items

@@ -21,13 +21,13 @@ use Rattle.stage_turns.proofs.ChangeLemmas.{tells_other, tells_same}
 -- a vector's list is the beginning of the token's
 known_vector : (w : World) (d : ℕ) (z : Datacentre) (k : ℕ) → StandsAt w d z → k < length z.maintainers → IsPrefix (vector_at z.vectors k).epochs z.token.epochs
 known_vector w d z k h there =
-    (All-get_or (IsTruePair z.token.epochs (IsFilledIn z.maintainers)) z.vectors k (blank no_epochs) (omega (arith, h.members.vectors)) h.heads).known
+    (All-get_or (IsTruePair z.token.epochs (IsFilledIn z.maintainers)) z.vectors k (blank no_epochs) (omega (arith, h.membership.members.vectors)) h.coverage.heads).known
 
 -- a maintainer, whatever room it has, and vectors of which those at `from` and `to` are m's and k's, meet what `gossip` asks
 pub may_gossip : (w : World) (d : ℕ) (z : Datacentre) (m k from to : ℕ) (x : MaintainerState Record) (vs : List Pair) → StandsAt w d z → m < length z.maintainers → k < length z.maintainers
     → plain x ≡ maintainer_at z.maintainers m → from < length vs → to < length vs → vector_at vs from ≡ vector_at z.vectors m → vector_at vs to ≡ vector_at z.vectors k → MayGossip x vs from to
 may_gossip w d z m k from to x vs h in_m in_k same in_from in_to teller hearer =
-    let owns : OwnsAll z.token.epochs (maintainer_at z.maintainers m) = All-get_or (OwnsAll z.token.epochs) z.maintainers m no_maintainer in_m h.owned.maintainers in
+    let owns : OwnsAll z.token.epochs (maintainer_at z.maintainers m) = All-get_or (OwnsAll z.token.epochs) z.maintainers m no_maintainer in_m h.membership.owned.maintainers in
     let known : OwnsAll z.token.epochs (plain x) = subst (OwnsAll z.token.epochs) (sym same) owns in
     record {
       teller = in_from;

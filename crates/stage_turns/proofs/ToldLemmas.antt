@@ -165,13 +165,13 @@ All-lent P k z ms lent all =
 
 pub may_look : (w : World) (d e k : ℕ) (z : Datacentre) (ms : List (MaintainerState Record)) → StandsAt w d z → e < w.workload.dcs → AreLent k z ms → MayLook d e z.senders ms z.table
 may_look w d e k z ms h there lent = record {
-  from = omega (arith, h.there, h.aware.square.rows);
-  to = omega (arith, there, h.aware.square.rows);
-  some = h.members.ranges.senders.0;
+  from = omega (arith, h.there, h.knowledge.aware.square.rows);
+  to = omega (arith, there, h.knowledge.aware.square.rows);
+  some = h.membership.members.ranges.senders.0;
   apart = record {
     first = All-weaker (λ (m : MaintainerState Record). All (IsEntryOf (log_of w d)) m.entries) (λ (m : MaintainerState Record). All (λ (x : Slot Record). 1 ≤ x.lid) m.entries)
-        (λ m. All-weaker (IsEntryOf (log_of w d)) (λ (x : Slot Record). 1 ≤ x.lid) (λ x i. i.first) m.entries) ms (All-lent (IsEntryOf (log_of w d)) k z ms lent h.placed.entries);
-    once = λ p. omega (arith, filled_seen p ms, ap (filled p) lent.seen, filled_kept p lent.kept z.maintainers, one_at_most (log_of w d) p _ _ (h.placed.once p));
+        (λ m. All-weaker (IsEntryOf (log_of w d)) (λ (x : Slot Record). 1 ≤ x.lid) (λ x i. i.first) m.entries) ms (All-lent (IsEntryOf (log_of w d)) k z ms lent h.positions.placed.entries);
+    once = λ p. omega (arith, filled_seen p ms, ap (filled p) lent.seen, filled_kept p lent.kept z.maintainers, one_at_most (log_of w d) p _ _ (h.positions.placed.once p));
   };
 }
 
@@ -180,10 +180,10 @@ may_tell w d e k z ms lawful h there lent =
     let log : List Record = log_of w d in
     let P : Stocked → Type 0 = λ x. x.rec.host ≡ d → FitsRecord (length z.table) x.rec in
     let fits : (x : Slot Record) → IsEntryOf log x → P (stocked x) = λ x i _.
-    subst (λ n. FitsRecord n x.value) (sym h.aware.square.rows) (valid_fits w.workload.dcs x.value (All-at_place (IsValid w.workload.dcs) log (x.lid - 1) x.value (lawful.valid d) i.stands)) in
+    subst (λ n. FitsRecord n x.value) (sym h.knowledge.aware.square.rows) (valid_fits w.workload.dcs x.value (All-at_place (IsValid w.workload.dcs) log (x.lid - 1) x.value (lawful.valid d) i.stands)) in
     record {
       look = may_look w d e k z ms h there lent;
-      counts = λ i g. omega (arith, ap (λ t. entry_of t i g) h.aware.same, lawful.entries d i g);
+      counts = λ i g. omega (arith, ap (λ t. entry_of t i g) h.knowledge.aware.same, lawful.entries d i g);
       own = All-map (λ (r : Record). r.host ≡ d → FitsRecord (length z.table) r) (λ (x : Stocked). x.rec) (stock_of ms k z.senders)
-          (All-sorted P [] (read_by k z.senders ms) (All-nil P) (All-weaker (IsEntryOf log) (λ x. P (stocked x)) fits (read_by k z.senders ms) (All-read_by (IsEntryOf log) k z.senders ms (All-lent (IsEntryOf log) k z ms lent h.placed.entries))));
+          (All-sorted P [] (read_by k z.senders ms) (All-nil P) (All-weaker (IsEntryOf log) (λ x. P (stocked x)) fits (read_by k z.senders ms) (All-read_by (IsEntryOf log) k z.senders ms (All-lent (IsEntryOf log) k z ms lent h.positions.placed.entries))));
     }

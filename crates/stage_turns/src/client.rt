@@ -8,7 +8,7 @@ ghost use Rattle.stage_turns.specs.Clients.{IsSessionTurn, MayRead, MayWrite, ba
 
 use crate::TurnDone;
 use crate::stage_shelf::StageShelf;
-use abstract_log::{Event, Outcome};
+use abstract_log::{BoxedAnswer, Event, Outcome};
 use batcher::Batcher;
 use causal_deps::{Item, Record};
 use cz_base::{DcId, NoMemory, Seq};
@@ -129,6 +129,7 @@ fn with_reply(events: Seq<Event>, dc: DcId, s: u32, next: Next) -> Result<Seq<Ev
     ensures { IfOk result (λ all. all ≡ events ++ reply_events dc s next) }
 {
     let mut events = events;
+    let alloc = events.alloc();
     match next {
         Next::Submitted(_draft) => {}
         Next::Replied { index, at, answer } => events.push(Event::Reply {
@@ -136,7 +137,7 @@ fn with_reply(events: Seq<Event>, dc: DcId, s: u32, next: Next) -> Result<Seq<Ev
             session: s,
             index,
             at,
-            answer,
+            answer: BoxedAnswer::new(alloc, answer)?,
         })?,
         Next::Key { .. } => {}
         Next::Waiting { .. } => {}

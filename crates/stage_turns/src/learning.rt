@@ -11,7 +11,7 @@ ghost use Rattle.stage_turns.specs.Learning.{IsAtOwner, MayLearn, learnable_by, 
 use crate::TurnDone;
 use abstract_log::{Event, Outcome};
 use awareness_table::Aware;
-use causal_deps::{Counts, Record, Shown};
+use causal_deps::{BoxedCounts, Counts, Record, Shown};
 use cz_base::{DcId, Lid, NoMemory, Seq};
 use flstore_rounds::Epochs;
 use head_gossip::Vector;
@@ -47,7 +47,7 @@ pub fn learn(
     *learnt = upto;
     Ok(TurnDone {
         outcome: Outcome::Learnt {
-            row: own_row(table),
+            row: BoxedCounts::new(maintainers.alloc(), &own_row(table))?,
         },
         events,
         changed,
@@ -106,7 +106,10 @@ fn learn_events(
 {
     let mut events = Seq::new(alloc);
     if !same_row(row, before) {
-        events.push(Event::Learn { dc, row: *row })?;
+        events.push(Event::Learn {
+            dc,
+            row: BoxedCounts::new(alloc, row)?,
+        })?;
     }
     Ok(events)
 }

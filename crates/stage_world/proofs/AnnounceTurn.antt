@@ -16,35 +16,25 @@ announce_keeps w d z g t none late room inside h =
     let new : Announcement = record { host = g; mark = t; next = 0 } in
     record {
       there = h.there;
-      counted = h.counted;
-      placed = h.placed;
-      owned = h.owned;
-      queues = h.queues;
-      members = h.members;
-      heads = h.heads;
-      indexers = h.indexers;
-      sessions = h.sessions;
-      present = h.present;
-      ordered = h.ordered;
-      under_way = h.under_way;
-      sound = record {
-        each = h.sound.each;
-        one_map = h.sound.one_map;
-        numbers = h.sound.numbers;
-        heard = λ i low. h.sound.heard i low ∙ ap (λ a. mark_accepted a i) none ∙ sym (cond-false (ltb i 0) (Some (record { host = g; from = t })) None (le-ltb i 0 (omega arith)));
-        host = λ a is. subst (λ (b : Announcement). b.host < length z.map) (same_Some new a is) inside;
-        asked = λ a is. subst (λ (b : Announcement). b.next ≤ length z.filters) (same_Some new a is) (omega arith);
-        later = λ a is. subst (λ (b : Announcement). (last_share z.map b.host).start < b.mark) (same_Some new a is) late;
-        room = λ a is. subst (λ (b : Announcement). (last_share z.map b.host).filters < 16) (same_Some new a is) room;
-        there = h.sound.there;
-        enough = h.sound.enough;
+      positions = h.positions;
+      membership = h.membership;
+      coverage = h.coverage;
+      clients = h.clients;
+      items = record {
+        under_way = h.items.under_way;
+        sound = record {
+          each = h.items.sound.each;
+          one_map = h.items.sound.one_map;
+          numbers = h.items.sound.numbers;
+          heard = λ i low. h.items.sound.heard i low ∙ ap (λ a. mark_accepted a i) none ∙ sym (cond-false (ltb i 0) (Some (record { host = g; from = t })) None (le-ltb i 0 (omega arith)));
+          host = λ a is. subst (λ (b : Announcement). b.host < length z.map) (same_Some new a is) inside;
+          asked = λ a is. subst (λ (b : Announcement). b.next ≤ length z.filters) (same_Some new a is) (omega arith);
+          later = λ a is. subst (λ (b : Announcement). (last_share z.map b.host).start < b.mark) (same_Some new a is) late;
+          room = λ a is. subst (λ (b : Announcement). (last_share z.map b.host).filters < 16) (same_Some new a is) room;
+          there = h.items.sound.there;
+          enough = h.items.sound.enough;
+        };
+        mapped = h.items.mapped;
       };
-      mapped = h.mapped;
-      served = h.served;
-      marked = h.marked;
-      numbered = h.numbered;
-      aware = h.aware;
-      below = h.below;
-      safe = h.safe;
-      named = h.named;
+      knowledge = h.knowledge;
     }

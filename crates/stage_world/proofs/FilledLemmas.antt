@@ -43,12 +43,12 @@ All-flat_map P (m ∷ ms) all =
 pub record_at_filled : (w : World) (d : ℕ) (z : Datacentre) (p : ℕ) → StandsAt w d z → IsFilledIn z.maintainers p → times p (gone_of w d) ≡ 0
     → record_kept z.maintainers p ≡ slice_get (log_of w d) (p - 1)
 record_at_filled w d z p h some kept =
-    value_at-log (log_of w d) p (flat_map (λ (m : MaintainerState Record). m.entries) z.maintainers) (omega (arith, times_in-flat_map p z.maintainers, h.placed.collected p))
-    (All-flat_map (IsEntryOf (log_of w d)) z.maintainers h.placed.entries)
+    value_at-log (log_of w d) p (flat_map (λ (m : MaintainerState Record). m.entries) z.maintainers) (omega (arith, times_in-flat_map p z.maintainers, h.positions.placed.collected p))
+    (All-flat_map (IsEntryOf (log_of w d)) z.maintainers h.positions.placed.entries)
 
 -- a filled position is in the log
 pub filled_within : (w : World) (d : ℕ) (z : Datacentre) (p : ℕ) → StandsAt w d z → IsFilledIn z.maintainers p → p ≤ length (log_of w d)
-filled_within w d z p h some = let once : waiting_in p z.queues + filled p z.maintainers ≡ position_in (log_of w d) p = h.placed.once p in grind (arith, nat_tests, once)
+filled_within w d z p h some = let once : waiting_in p z.queues + filled p z.maintainers ≡ position_in (log_of w d) p = h.positions.placed.once p in grind (arith, nat_tests, once)
 
 -- what makes up one position is there once at most
 pub one_at_most : (log : List Record) (q a b : ℕ) → a + b ≡ position_in log q → b ≤ 1

@@ -1,5 +1,5 @@
 -- The rows that stages leave are those of the log that they stand for.
-use Rattle.std.proofs.Common.{◌≡◌, ℕ, zero, suc, ◌+◌, ◌-◌, ◌<◌, ◌≤◌, ◌⊎◌, Bool, true, false, cond, eqb, List, [], ◌∷◌, ◌++◌, length, map, get_or, set, refl, ap, sym, ◌∙◌, subst, inl, inr, arith, Some}
+use Rattle.std.proofs.Common.{◌≡◌, ℕ, zero, suc, ◌+◌, ◌-◌, ◌<◌, ◌≤◌, ◌⊎◌, true, false, cond, eqb, List, [], ◌∷◌, length, map, get_or, set, refl, ap, sym, ◌∙◌, subst, inl, inr, arith, Some}
 use Rattle.std.specs.List.{All, flat_map, fold, slice_get, sum_by}
 use Rattle.std.proofs.lemmas.List.{get_or-set_same, get_or-set_other, length-set, length-replicate, ext_get_or}
 use Rattle.std.proofs.lemmas.List.Elements.{All-nil, All-append, All-head, All-map, All-tail, Contains-get_or}
@@ -14,13 +14,13 @@ use Rattle.abstract_log.specs.declared.left.Row.TheVariants.{Kept, Gone}
 use Rattle.abstract_log.specs.declared.world.World.{World}
 use Rattle.abstract_log.specs.Left.{is_collected, row_at, rows_from, rows_of}
 use Rattle.abstract_log.specs.Worlds.{log_of, gone_of}
-use Rattle.maintainer.specs.Maintainers.{MaintainerState, IsEntryOf, times, times_in}
+use Rattle.maintainer.specs.Maintainers.{IsEntryOf, times, times_in}
 use Rattle.maintainer.specs.declared.slot.Slot.{Slot}
 use Rattle.maintainer.proofs.CountLemmas.{entry_counts}
 use Rattle.token_queue.specs.declared.entry.Entry.{Entry}
 use Rattle.token_queue.specs.Queues.{QueueState, times_among, waiting}
-use Rattle.stage_world.specs.Stages.{Datacentre, filled, slot_of, waiting_in}
-use Rattle.stage_world.specs.StandsFor.{StandsAt, IsNamed, gone_times, position_in}
+use Rattle.stage_world.specs.Stages.{Datacentre, slot_of, waiting_in}
+use Rattle.stage_world.specs.StandsFor.{StandsAt, IsNamed, position_in}
 use Rattle.stage_world.specs.Leaving.{blank_rows, rows_told, slots_in, slots_kept, slots_waiting, with_place, with_row, with_slot}
 use Rattle.stage_world.proofs.FilledLemmas.{times_in-flat_map, All-flat_map}
 
@@ -202,32 +202,32 @@ module _ (w : World) (d : ℕ) (z : Datacentre) (h : StandsAt w d z) where
 
   -- each position is in one place
   in_one_place : (p : ℕ) → times_in p waits + (times_in p kept + times p named) ≡ position_in log p
-  in_one_place p = omega (arith, h.placed.once p, times_in-waiting p z.queues, times_in-flat_map p z.maintainers, h.placed.collected p, h.named.once p)
+  in_one_place p = omega (arith, h.positions.placed.once p, times_in-waiting p z.queues, times_in-flat_map p z.maintainers, h.positions.placed.collected p, h.knowledge.named.once p)
 
   stands : (ss : List (Slot Record)) → All (IsEntryOf log) ss → ((p : ℕ) → times_in p ss + times p named ≤ position_in log p) → All (λ s. IsRowAt log gone s.lid (Kept s.value)) ss
   stands ss all few = λ k x within.
       let s : Slot Record = get_or ss k x in
-      kept_right log gone s (all k x within) (omega (arith, few s.lid, position_once log s.lid, h.named.once s.lid, entry_counts s ss (Contains-get_or ss k x within)))
+      kept_right log gone s (all k x within) (omega (arith, few s.lid, position_once log s.lid, h.knowledge.named.once s.lid, entry_counts s ss (Contains-get_or ss k x within)))
 
   all_wait : All (IsEntryOf log) waits
   all_wait = all_flat (IsEntryOf log) (λ (q : QueueState). slots_in q.outboxes) z.queues
       (λ k x within. all_flat (IsEntryOf log) (λ (es : List Entry). map slot_of es) (get_or z.queues k x).outboxes
-      (λ i es low. All-map (IsEntryOf log) slot_of (get_or (get_or z.queues k x).outboxes i es) (h.placed.outboxes k x within i es low)))
+      (λ i es low. All-map (IsEntryOf log) slot_of (get_or (get_or z.queues k x).outboxes i es) (h.positions.placed.outboxes k x within i es low)))
 
   all_kept : All (IsEntryOf log) kept
-  all_kept = All-flat_map (IsEntryOf log) z.maintainers h.placed.entries
+  all_kept = All-flat_map (IsEntryOf log) z.maintainers h.positions.placed.entries
 
   all_gone : All (λ x. IsRowAt log gone x.lid (Gone x.host x.toid)) z.collected
   all_gone = λ k x within.
       let place : Place = get_or z.collected k x in
       let counted : 1 ≤ times place.lid named = place_counts z.collected k x within in
-      gone_right log gone place (h.named.each k x within) (position_first log place.lid (omega (arith, in_one_place place.lid, counted))) (omega (arith, counted, h.named.once place.lid))
+      gone_right log gone place (h.knowledge.named.each k x within) (position_first log place.lid (omega (arith, in_one_place place.lid, counted))) (omega (arith, counted, h.knowledge.named.once place.lid))
 
   pub rows_are : rows_told z.token.last z.queues z.maintainers z.collected ≡ rows_of log gone
   rows_are =
       let n : ℕ = z.token.last in
       let start : AreTold log gone (blank_rows n) (λ p. times_in p waits + (times_in p kept + (times p named + 0))) = record {
-        size = length-replicate n (Gone 0 0) ∙ h.counted.whole;
+        size = length-replicate n (Gone 0 0) ∙ h.positions.counted.whole;
         each = λ k x within. inr (omega (arith, in_one_place (k + 1), position_there log (k + 1) (omega arith) (omega (arith, within))));
       } in
       let one = told_slots log gone (blank_rows n) (λ p. times_in p kept + (times p named + 0)) waits (stands waits all_wait (λ p. omega (arith, in_one_place p))) start in

@@ -19,7 +19,7 @@ use Rattle.toid_filter.specs.Champions.{grown, last_share, last_of_shares, sole_
 use Rattle.toid_filter.specs.Filters.{FilterState, Announcement, no_filter, new_filter, filter_at, times_passed, is_past, cancelled, activated, handed_out, AreSound}
 use Rattle.toid_filter.specs.Marks.{mark_of, asked_next, grown_by, filters_grown}
 use Rattle.toid_filter.proofs.SumLemmas.{AllKeep, kept_sums, kept_passing, kept_held, sum_by-map_external}
-use Rattle.toid_filter.proofs.MarkLemmas.{cancels, accepted_sound, cancelled_sound, shares_of, All-handed, all_activated, grown_sound, grown_sums, grown_passed, grown_held, grown_out}
+use Rattle.toid_filter.proofs.MarkLemmas.{last_of_shares-push, cancels, accepted_sound, cancelled_sound, shares_of, All-handed, all_activated, grown_sound, grown_sums, grown_passed, grown_held, grown_out}
 use Rattle.stage_world.specs.Stages.{Datacentre, in_batchers}
 use Rattle.toid_filter.specs.Sums.{is_named}
 use Rattle.stage_world.specs.Turns.{quiet, taken_by}
@@ -30,11 +30,7 @@ use Rattle.stage_world.proofs.ListLemmas.{All-set_at, sum_by-set_same}
 use Rattle.stage_world.proofs.AnnounceTurn.{announce_keeps}
 use Rattle.stage_world.proofs.FlushTurn.{all_taken_keep, length-taken, under_way_by_sums, stands_with}
 
--- belongs to toid_filter: where fewer than 16 filters serve a host, the grown map has at most 16 for it
-last_of_shares-push : (f : Share) (xs : List Share) (n : Share) → last_of_shares f (xs ++ n ∷ []) ≡ n
-last_of_shares-push f [] n = refl
-last_of_shares-push f (x ∷ xs) n = last_of_shares-push x xs n
-
+-- where fewer than 16 filters serve a host, the grown map has at most 16 for it
 few_grown : (m : List (List Share)) (h mark : ℕ) → (last_share m h).filters < 16 → (last_share (grown m h mark) h).filters ≤ 16
 few_grown m h mark few = elim (shares_of m h mark h) [
   | inl same ↦ omega (arith, few, ap (λ ss. (last_of_shares sole_share ss).filters) same)
@@ -58,14 +54,14 @@ cancel_keeps w d z h =
     let D : Item → Type 0 = IsDue w.workload w.sessions w.logs (pending_of w d) d in
     let fs : List FilterState = map cancelled z.filters in
     let size : length fs ≡ length z.filters = length-map z.filters cancelled in
-    let kept : AllKeep D cancelled nothing z.filters = λ i f low. (cancels D (get_or z.filters i f) (h.sound.each i f low) (h.under_way.due.held i f low) (h.under_way.due.out i f low)).kept in
+    let kept : AllKeep D cancelled nothing z.filters = λ i f low. (cancels D (get_or z.filters i f) (h.items.sound.each i f low) (h.items.under_way.due.held i f low) (h.items.under_way.due.out i f low)).kept in
     let held = kept_held D cancelled nothing z.filters kept in
-    stands_with w d z z.batchers fs z.map None refl (omega (arith, size, h.members.ranges.filters.0), omega (arith, size, h.members.ranges.filters.1)) refl
-    (cancelled_sound z.map z.announcement z.filters h.sound)
+    stands_with w d z z.batchers fs z.map None refl (omega (arith, size, h.membership.members.ranges.filters.0), omega (arith, size, h.membership.members.ranges.filters.1)) refl
+    (cancelled_sound z.map z.announcement z.filters h.items.sound)
     (under_way_by_sums w.workload w.sessions w.logs (pending_of w d) d z.queues z.token.deferred z.batchers z.batchers z.filters fs
     (λ g. omega (arith, kept_sums D cancelled nothing z.filters g kept, none_given z.filters g))
     (λ g t. kept_passing D cancelled nothing z.filters g t kept)
-    h.under_way.due.batchers held.0 held.1 h.under_way)
+    h.items.under_way.due.batchers held.0 held.1 h.items.under_way)
     h
 
 module _ (w : World) (d : ℕ) (z : Datacentre) (h : StandsAt w d z) (a : Announcement) (is : z.announcement ≡ Some a) where
@@ -73,7 +69,7 @@ module _ (w : World) (d : ℕ) (z : Datacentre) (h : StandsAt w d z) (a : Announ
   D = IsDue w.workload w.sessions w.logs (pending_of w d) d
 
   sound_some : AreSound z.map (Some a) z.filters
-  sound_some = subst (λ o. AreSound z.map o z.filters) is h.sound
+  sound_some = subst (λ o. AreSound z.map o z.filters) is h.items.sound
 
   -- the next filter accepts the mark
   pub accept_keeps : a.next < length z.filters → is_past a.host a.mark (filter_at z.filters a.next) ≡ false → StandsAt w d (accept_next z a)
@@ -81,15 +77,15 @@ module _ (w : World) (d : ℕ) (z : Datacentre) (h : StandsAt w d z) (a : Announ
       let new : FilterState = record (filter_at z.filters a.next) { accepted = Some (mark_of a) } in
       let fs : List FilterState = set z.filters a.next new in
       let size : length fs ≡ length z.filters = length-set z.filters a.next new in
-      stands_with w d z z.batchers fs z.map (Some (asked_next a)) refl (omega (arith, size, h.members.ranges.filters.0), omega (arith, size, h.members.ranges.filters.1)) refl
+      stands_with w d z z.batchers fs z.map (Some (asked_next a)) refl (omega (arith, size, h.membership.members.ranges.filters.0), omega (arith, size, h.membership.members.ranges.filters.1)) refl
       (accepted_sound z.map a z.filters sound_some low past)
       (under_way_by_sums w.workload w.sessions w.logs (pending_of w d) d z.queues z.token.deferred z.batchers z.batchers z.filters fs
       (λ g. omega (arith, sum_by-set_same (λ (x : FilterState). sum_by (λ r. g (External r)) x.held) z.filters a.next new no_filter refl, sum_by-set_same (λ (x : FilterState). sum_by g x.out) z.filters a.next new no_filter refl))
       (λ g t. omega (arith, sum_by-set_same (λ (x : FilterState). sum_by (is_named g t) x.out) z.filters a.next new no_filter refl, sum_by-set_same (times_passed g t) z.filters a.next new no_filter refl))
-      h.under_way.due.batchers
-      (All-set_at (λ (x : FilterState). All (λ r. D (External r)) x.held) z.filters a.next new no_filter (λ _ has. has) h.under_way.due.held)
-      (All-set_at (λ (x : FilterState). All D x.out) z.filters a.next new no_filter (λ _ has. has) h.under_way.due.out)
-      h.under_way)
+      h.items.under_way.due.batchers
+      (All-set_at (λ (x : FilterState). All (λ r. D (External r)) x.held) z.filters a.next new no_filter (λ _ has. has) h.items.under_way.due.held)
+      (All-set_at (λ (x : FilterState). All D x.out) z.filters a.next new no_filter (λ _ has. has) h.items.under_way.due.out)
+      h.items.under_way)
       h
 
   -- all accepted it
@@ -114,7 +110,7 @@ module _ (w : World) (d : ℕ) (z : Datacentre) (h : StandsAt w d z) (a : Announ
     hosts = length-set z.map a.host (get_or z.map a.host [] ++ (record { start = a.mark; filters = (last_share z.map a.host).filters + 1 }) ∷ [])
 
     kept : AllKeep D (activated m) (handed_out m) z.filters
-    kept = λ i f low. (all_activated z.map a z.filters sound_some heard D h.under_way.due.held h.under_way.due.out i f low).kept
+    kept = λ i f low. (all_activated z.map a z.filters sound_some heard D h.items.under_way.due.held h.items.under_way.due.out i f low).kept
 
     under_grown : AreUnderWay w.workload w.sessions w.logs (pending_of w d) d bs_more fs_grown z.queues z.token.deferred
     under_grown =
@@ -124,10 +120,10 @@ module _ (w : World) (d : ℕ) (z : Datacentre) (h : StandsAt w d z) (a : Announ
         let same = grown_sums z.map a z.filters sound_some heard g in
         omega (arith, same.0, same.1, kept_sums D (activated m) (handed_out m) z.filters g kept, sum_by_push (sum_by g) z.batchers handed, sum_by-map_external g (flat_map (handed_out m) z.filters)))
         (λ g t. omega (arith, (grown_sums z.map a z.filters sound_some heard (is_named g t)).1, grown_passed z.map a z.filters sound_some heard g t, kept_passing D (activated m) (handed_out m) z.filters g t kept))
-        (All-push (All D) z.batchers handed h.under_way.due.batchers (All-handed D m z.filters h.under_way.due.held))
+        (All-push (All D) z.batchers handed h.items.under_way.due.batchers (All-handed D m z.filters h.items.under_way.due.held))
         (grown_held z.map a z.filters sound_some heard D held.0)
         (grown_out z.map a z.filters sound_some heard D held.1)
-        h.under_way
+        h.items.under_way
 
     size_grown : IsSize (length fs_grown)
     size_grown =
@@ -137,7 +133,7 @@ module _ (w : World) (d : ℕ) (z : Datacentre) (h : StandsAt w d z) (a : Announ
         (λ needed.
         let less = ltb-true (length z.filters) (last_share m a.host).filters needed in
         (omega (arith, length_push fs_on made), omega (arith, size, length_push fs_on made, less, few)))
-        (λ enough. (omega (arith, size, h.members.ranges.filters.0), omega (arith, size, h.members.ranges.filters.1)))
+        (λ enough. (omega (arith, size, h.membership.members.ranges.filters.0), omega (arith, size, h.membership.members.ranges.filters.1)))
       where
         made : FilterState
         made = new_filter (length z.filters) m
@@ -147,14 +143,14 @@ module _ (w : World) (d : ℕ) (z : Datacentre) (h : StandsAt w d z) (a : Announ
         let b : ℕ = length z.batchers in
         let fs : List FilterState = fold (taken_by m) fs_grown handed in
         let last : get_or bs_more b [] ≡ handed = get_or_push z.batchers handed [] b refl in
-        let ready = all_taken_keep w.workload w.sessions w.logs (pending_of w d) d z.queues z.token.deferred m None (hosts ∙ h.mapped) handed bs_more fs_grown b (omega (arith, length_push z.batchers handed)) last
+        let ready = all_taken_keep w.workload w.sessions w.logs (pending_of w d) d z.queues z.token.deferred m None (hosts ∙ h.items.mapped) handed bs_more fs_grown b (omega (arith, length_push z.batchers handed)) last
         (grown_sound z.map a z.filters sound_some heard, under_grown) in
         let emptied : set bs_more b [] ≡ z.batchers ++ [] ∷ [] = set_at z.batchers handed [] [] b refl in
         let size : length fs ≡ length fs_grown = length-taken m handed fs_grown in
         stands_with w d z z.batchers fs m None refl (omega (arith, size, size_grown.0), omega (arith, size, size_grown.1)) hosts ready.0
         (under_way_by_sums w.workload w.sessions w.logs (pending_of w d) d z.queues z.token.deferred (set bs_more b []) z.batchers fs fs
         (λ g. omega (arith, ap (in_batchers g) emptied, sum_by_push (sum_by g) z.batchers []))
-        (λ g t. refl) h.under_way.due.batchers ready.1.due.held ready.1.due.out ready.1)
+        (λ g t. refl) h.items.under_way.due.batchers ready.1.due.held ready.1.due.out ready.1)
         h
 
 -- a turn without events keeps what its state stands for
@@ -196,4 +192,4 @@ announce_at w d z g t None is inside room h =
 pub announce_turn_keeps : (w : World) (d : ℕ) (z : Datacentre) (g t : ℕ) → g < w.workload.dcs → StandsAt w d z → Keeps w d (announce_turn z g t)
 announce_turn_keeps w d z g t there h =
     cond_both (ltb (last_share z.map g).filters 16) (option_map_or (λ a. quiet Busy z) z.announcement (announce_idle z g t)) (quiet Absent z) (Keeps w d)
-    (λ room. announce_at w d z g t z.announcement refl (omega (arith, h.mapped)) (ltb-true (last_share z.map g).filters 16 room) h) (λ full. quiet_keeps w d Absent z h)
+    (λ room. announce_at w d z g t z.announcement refl (omega (arith, h.items.mapped)) (ltb-true (last_share z.map g).filters 16 room) h) (λ full. quiet_keeps w d Absent z h)

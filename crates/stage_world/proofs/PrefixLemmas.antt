@@ -1,5 +1,5 @@
 -- Two beginnings of one epoch list.
-use Rattle.std.proofs.Common.{◌≡◌, ◌⊎◌, ℕ, zero, suc, ◌-◌, ◌<◌, ◌≤◌, List, [], ◌∷◌, take, drop, length, refl, ap, sym, ◌∙◌, inl, inr, arith}
+use Rattle.std.proofs.Common.{◌≡◌, ◌⊎◌, ℕ, zero, suc, ◌-◌, ◌≤◌, List, [], ◌∷◌, take, drop, length, refl, ap, sym, ◌∙◌, inl, inr, arith}
 use Rattle.std.specs.List.{All}
 use Rattle.std.proofs.lemmas.List.{drop_all, drop-take}
 use Rattle.std.proofs.lemmas.List.Elements.{All-nil, All-same, All-take}
@@ -7,13 +7,15 @@ use Rattle.std.proofs.lemmas.Bool.{cases_lt}
 use Rattle.flstore_rounds.specs.declared.epochs.Epoch.{Epoch}
 use Rattle.flstore_rounds.specs.Epochs.{EpochList, IsPrefix, later_than}
 
-take-shorter : {A : Type 0} (n k : ℕ) (xs : List A) → n ≤ k → take n (take k xs) ≡ take n xs
+-- of two beginnings of a list the shorter is a beginning of the longer
+pub take-shorter : {A : Type 0} (n k : ℕ) (xs : List A) → n ≤ k → take n (take k xs) ≡ take n xs
 take-shorter zero k xs le = refl
 take-shorter (suc n) zero xs le = absurd (omega arith)
 take-shorter (suc n) (suc k) [] le = refl
 take-shorter (suc n) (suc k) (x ∷ xs) le = ap (λ ys. x ∷ ys) (take-shorter n k xs (omega arith))
 
-prefix_of : (e f t : EpochList) → IsPrefix e t → IsPrefix f t → length e.list ≤ length f.list → IsPrefix e f
+-- so it is with epoch lists
+pub prefix_of : (e f t : EpochList) → IsPrefix e t → IsPrefix f t → length e.list ≤ length f.list → IsPrefix e f
 prefix_of e f t he hf short = record {
   round = he.round ∙ sym hf.round;
   shorter = short;

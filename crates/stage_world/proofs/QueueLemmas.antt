@@ -1,17 +1,20 @@
--- Queues of a datacentre, when one of them changes.
+-- Queues of a datacentre, when one of them changes, and the members of each stage.
 use Rattle.std.proofs.Common.{◌≡◌, ℕ, ◌-◌, ◌/◌, ◌<◌, ◌≤◌, cond, leb, mod-lt, List, [], ◌∷◌, ◌++◌, length, get_or, set, ap, ◌∙◌, subst, sym, inl, inr, arith, None}
 use Rattle.std.specs.List.{All}
 use Rattle.std.proofs.lemmas.List.{get_or-set_other, set_past, length-set}
 use Rattle.std.proofs.lemmas.List.Elements.{All-push, All-head, All-tail}
 use Rattle.std.proofs.lemmas.Bool.{cases_eq, cases_lt, cond_both}
 use Rattle.std.proofs.lemmas.Grind.{get_or-set_at}
+use Rattle.causal_deps.specs.declared.record.Record.{Record}
 use Rattle.abstract_log.specs.declared.script.Sizes.{Sizes}
+use Rattle.abstract_log.specs.Fits.{FitsSizes}
 use Rattle.flstore_rounds.specs.declared.epochs.Epoch.{Epoch}
 use Rattle.flstore_rounds.specs.Epochs.{EpochList, IsEpochList, first_epoch, epoch_from, owner, IsSettled}
+use Rattle.maintainer.specs.Maintainers.{MaintainerState}
 use Rattle.token_queue.specs.declared.entry.Entry.{Entry}
 use Rattle.token_queue.specs.Queues.{QueueState, with_entry}
 use Rattle.stage_world.specs.Stages.{Datacentre, no_queue, queue_at, sizes_of}
-use Rattle.stage_world.specs.StandsFor.{AreQueues, AreMembers, IsDealtBy}
+use Rattle.stage_world.specs.StandsFor.{AreQueues, AreMembers, HasMembership, IsDealtBy}
 use Rattle.stage_world.proofs.ListLemmas.{All-set_at}
 
 pub queues_set : (qs : List QueueState) (i : ℕ) (q : QueueState) → q.number ≡ (queue_at qs i).number → q.token ≡ (queue_at qs i).token → AreQueues qs → AreQueues (set qs i q)
@@ -28,6 +31,22 @@ members_same t ring at nv a b same h = subst (AreMembers t ring at nv) (sym same
 
 pub sizes_with_queue : (z : Datacentre) (i : ℕ) (q : QueueState) → sizes_of (record z { queues = set z.queues i q }) ≡ sizes_of z
 sizes_with_queue z i q = ap (λ n. record (sizes_of z) { queues = n }) (length-set z.queues i q)
+
+-- as many queues and maintainers as before, and members in their ranges
+pub resized : (t : EpochList) (ring at nv : ℕ) (a b : Sizes) (qs : List QueueState) (ms : List (MaintainerState Record)) → b.queues ≡ a.queues → b.maintainers ≡ a.maintainers → FitsSizes b
+    → HasMembership t ring at nv a qs ms → HasMembership t ring at nv b qs ms
+resized t ring at nv a b qs ms queues maintainers fits h = record {
+  owned = h.owned;
+  queues = h.queues;
+  members = record {
+    dealt = h.members.dealt;
+    maintainers = h.members.maintainers ∙ sym maintainers;
+    vectors = h.members.vectors ∙ sym maintainers;
+    queues = h.members.queues ∙ sym queues;
+    holder = omega (arith, h.members.holder, queues);
+    ranges = fits;
+  };
+}
 
 -- an entry more, in the outbox of its owner
 pub dealt_more : (t : EpochList) (q : QueueState) (e : Entry) → q.epochs ≡ t → IsSettled t q.epochs e.lid → IsDealtBy t q → IsDealtBy t (with_entry t e q)
@@ -55,7 +74,7 @@ few_from found (e ∷ es) p has some few =
     (cond_both (leb e.start p) e found (λ (x : Epoch). (1 ≤ x.members) × (x.members ≤ 16)) (λ _. (All-head (λ (x : Epoch). 1 ≤ x.members) e es some, All-head (λ (x : Epoch). x.members ≤ 16) e es few)) (λ _. has))
     (All-tail (λ (x : Epoch). 1 ≤ x.members) e es some) (All-tail (λ (x : Epoch). x.members ≤ 16) e es few)
 
--- belongs to flstore_rounds
+-- the owner of a position is one of the members
 pub owner_below : (t : EpochList) (p : ℕ) → IsEpochList t → owner t p < 16
 owner_below t p h =
     let few = few_from first_epoch t.list p (omega arith, omega arith) h.some_members h.few_members in

@@ -23,10 +23,10 @@ outbox_entries P q m all = elim (cases_lt m (length q.outboxes)) [
 
 -- there is a first vector, and its pair is true
 pub some_vector : (w : World) (d : ℕ) (z : Datacentre) → StandsAt w d z → 0 < length z.vectors
-some_vector w d z h = omega (arith, h.members.vectors, h.members.ranges.maintainers.0)
+some_vector w d z h = omega (arith, h.membership.members.vectors, h.membership.members.ranges.maintainers.0)
 
 pub first_true : (w : World) (d : ℕ) (z : Datacentre) → StandsAt w d z → IsTruePair z.token.epochs (IsFilledIn z.maintainers) (vector_at z.vectors 0)
-first_true w d z h = All-get_or (IsTruePair z.token.epochs (IsFilledIn z.maintainers)) z.vectors 0 (blank no_epochs) (some_vector w d z h) h.heads
+first_true w d z h = All-get_or (IsTruePair z.token.epochs (IsFilledIn z.maintainers)) z.vectors 0 (blank no_epochs) (some_vector w d z h) h.coverage.heads
 
 -- the head of a true pair is in the log
 pub true_head_within : (w : World) (d : ℕ) (z : Datacentre) (v : Pair) → StandsAt w d z → IsTruePair z.token.epochs (IsFilledIn z.maintainers) v → head v ≤ length (log_of w d)

@@ -1,8 +1,6 @@
 -- The turn of a session: it begins its next command, or goes on with the one that is open.
-use Rattle.std.specs.Prelude.{ℕ, zero, suc, ◌+◌, ◌%◌, ◌==◌, ◌&&◌, false, if◌then◌else◌, nat_lt, List, [], ◌∷◌, ◌++◌, length, Option, Some, None, find, slice_get, bytes_eq}
-use Rattle.std.specs.Option.{option_map_or, option_map, option_to_list}
-use Rattle.std.specs.List.{list_any}
-use Rattle.causal_deps.specs.declared.record.Place.{Place}
+use Rattle.std.specs.Prelude.{ℕ, ◌%◌, ◌==◌, if◌then◌else◌, nat_lt, List, [], ◌∷◌, ◌++◌, length, Some, find, slice_get}
+use Rattle.std.specs.Option.{option_map_or}
 use Rattle.abstract_log.specs.declared.command.Command.{Command}
 use Rattle.abstract_log.specs.declared.command.Command.TheVariants.{Append as AppendCommand, Put, Get, Tx, Read as ReadCommand, Last as LastCommand}
 use Rattle.abstract_log.specs.declared.event.Event.TheVariants.{Submit, Reply}
@@ -14,7 +12,7 @@ use Rattle.abstract_log.specs.declared.answer.ReadAnswer.{ReadAnswer}
 use Rattle.abstract_log.specs.declared.answer.ReadAnswer.TheVariants.{Beyond, Gone}
 use Rattle.abstract_log.specs.declared.script.Outcome.TheVariants.{Absent, Unacknowledged, Finished, Submitted, Replied, Waiting, Below, Behind, Key}
 use Rattle.abstract_log.specs.Commands.{draft_of}
-use Rattle.abstract_log.specs.Answers.{places_in, past_with, shown_record, found_record, last_of}
+use Rattle.abstract_log.specs.Answers.{shown_record, found_record, last_of}
 use Rattle.flstore_rounds.specs.Heads.{head}
 use Rattle.tag_indexer.specs.Rows.{newest_row, tagged_places}
 pub use Rattle.hyksos.specs.Sessions.{next_index, replied}

@@ -1,16 +1,13 @@
--- Idle turns: those after which all is as it was but for epoch lists.
-use Rattle.std.specs.Prelude.{◌≡◌, ◌≢◌, ◌&&◌, Bool, true, false, is_some, nat_lt, map}
+-- Idle turns: those after which all is as it was, but for epoch lists.
+use Rattle.std.specs.Prelude.{◌≡◌, ◌≢◌, Bool, true, false, map}
 use Rattle.causal_deps.specs.declared.record.Record.{Record}
 use Rattle.flstore_rounds.specs.Heads.{Pair}
 use Rattle.maintainer.specs.Maintainers.{MaintainerState}
 use Rattle.token_queue.specs.Queues.{QueueState}
-use Rattle.lossy_links.specs.Links.{message_at}
 use Rattle.abstract_log.specs.declared.command.Workload.{Workload}
 use Rattle.abstract_log.specs.declared.script.Step.{Step}
-use Rattle.abstract_log.specs.declared.script.Step.TheVariants.{Send, Deliver, Lose, Copy}
 use Rattle.tag_indexer.specs.Indexers.{IndexerState}
 use Rattle.stage_world.specs.Stages.{Datacentre, Stages, no_epochs}
-use Rattle.stage_world.specs.Whole.{datacentre_at, link_at}
 use Rattle.stage_world.specs.Schedules.{step_of}
 
 -- a queue, a maintainer, a vector and an indexer, whatever epoch list it has
@@ -44,16 +41,8 @@ pub record TellsApart {X : Type 0} (changed : Bool) (old new : X) : Type 0 where
 abbrev pub TellsChange : Bool → Datacentre → Datacentre → Type 0
 TellsChange changed old new = TellsApart changed (apart_from_epochs old) (apart_from_epochs new)
 
--- A step by which a packet goes into a link or out of one: the member that it names is there, and so is the packet.
-abbrev pub moves_packet : Stages → Step → Bool
-moves_packet z (Send d k e) = nat_lt k (datacentre_at z d).senders
-moves_packet z (Deliver d e k r) = nat_lt r (datacentre_at z e).receivers && is_some (message_at (link_at z d e) k)
-moves_packet z (Lose d e k) = is_some (message_at (link_at z d e) k)
-moves_packet z (Copy d e k) = is_some (message_at (link_at z d e) k)
-moves_packet z step = false
-
--- Idle turn: no packet goes into a link or out of one, and each datacentre is the same but for epoch lists.
+-- Idle turn: it leaves each link as it was, and each datacentre but for epoch lists. A send into a full link of messages that equal the
+-- new one is idle, and so is such a copy.
 pub record IsIdleTurn (load : Workload) (z : Stages) (step : Step) : Type 0 where
-  pub packets : moves_packet z step ≡ false
   pub links : (step_of load z step).after.links ≡ z.links
   pub datacentres : map apart_from_epochs (step_of load z step).after.datacentres ≡ map apart_from_epochs z.datacentres

@@ -1,3 +1,4 @@
+-- What the calls of indexers stand on: rows, tags, what is listed, and what is found.
 pub mod NewestLemmas
 pub mod TaggedLemmas
 pub mod RowLemmas

@@ -8,6 +8,7 @@ use Rattle.flstore_rounds.specs.Epochs.{EpochList, owner, later_than}
 use Rattle.flstore_rounds.specs.Heads.{Pair, blank, head, mark_at, with_own, IsBelowMark}
 use Rattle.tag_indexer.specs.declared.post.Post.{Post}
 use Rattle.tag_indexer.specs.Rows.{has_home, newest_row, rows_in}
+use Rattle.cz_base.specs.declared.limits.TheConstants.{MEMBERS}
 
 -- What contracts see of an indexer: its number, how many indexers there are, the epochs and the mark of each maintainer,
 -- and its rows by rising position.
@@ -58,7 +59,7 @@ pub record AreInOrder (rows : List Post) : Type 0 where
 -- What each indexer keeps: its marks begin at 1, and its rows rise by position, are of positions below the mark of their
 -- owner, and have a tag at home here.
 pub record AreKept (number indexers : ℕ) (v : Pair) (rows : List Post) : Type 0 where
-  pub size : length v.marks ≡ 16
+  pub size : length v.marks ≡ MEMBERS
   pub some : All (λ k. 1 ≤ k) v.marks
   pub marked : All (λ post. (1 ≤ post.place.lid) × IsBelowMark v post.place.lid) rows
   pub homes : All (λ post. has_home indexers number post.tags ≡ true) rows

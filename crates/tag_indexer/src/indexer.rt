@@ -1,3 +1,5 @@
+//! Indexers: what is posted to each, and what it finds.
+
 ghost use Rattle.std.specs.Prelude.{◌≡◌, ℕ, ◌<◌, ◌≤◌, ◌⊎◌, ◌↔◌, List, take, length, All, Bool, IsTrue, IfOk, IsErrOf, OnOk, OnErr};
 ghost use Rattle.causal_deps.specs.declared.record.Record.{Record};
 ghost use Rattle.causal_deps.specs.declared.answers.Newest.{Newest as NewestValue};
@@ -7,11 +9,13 @@ ghost use Rattle.flstore_rounds.specs.Heads.{IsHead, IsTrueMark, IsTrueOf, head,
 ghost use Rattle.tag_indexer.specs.Rows.{home, tagged_places};
 ghost use Rattle.tag_indexer.specs.Indexers.{AreBegun, AreOwnRows, IndexerState, empty, newest_found, posted};
 ghost use Rattle.tag_indexer.specs.Indexed.{IsIndexed, IsRowOf, found_in};
+ghost use Rattle.cz_base.specs.declared.limits.TheConstants.{MEMBERS};
 
 use crate::Post;
 use crate::rows::{last_tagged, list_rows, newest_put, put_rows};
 use crate::tag_index::TagIndex;
 use causal_deps::{LastFault, Newest, Place};
+use cz_base::limits::MEMBERS;
 use cz_base::{Lid, Name, NoMemory, Seq};
 use flstore_rounds::{Epochs, head_of};
 use std::alloc::Global;
@@ -24,7 +28,7 @@ pub struct Indexer {
     number: u32,
     indexers: u32,
     epochs: Epochs,
-    marks: [Lid; 16],
+    marks: [Lid; MEMBERS],
     rows: Vec<Post>,
     /// Where the rows are found by a key, and by a tag.
     puts: TagIndex,
@@ -56,7 +60,7 @@ impl Indexer {
             number,
             indexers,
             epochs,
-            marks: [1; 16],
+            marks: [1; MEMBERS],
             rows: Vec::new(alloc),
             puts: TagIndex::new(alloc),
             tagged: TagIndex::new(alloc),
@@ -64,7 +68,8 @@ impl Indexer {
     }
 
     /// Takes the longer epoch list, and from maintainer m the rows of its own positions from the mark of m up to
-    /// below `upto`, which becomes the mark of m unless it is lower. Rows with no tag at home here are dropped.
+    /// below `upto`, which becomes the mark of m unless it is lower. Rows with no tag at home here are dropped. After `NoMemory` the
+    /// indexer is as before.
     pub fn post(
         &mut self,
         epochs: &Epochs,
@@ -72,7 +77,7 @@ impl Indexer {
         upto: Lid,
         rows: Seq<Post>,
     ) -> Result<(), NoMemory>
-        requires member { m < 16 }
+        requires member { m < MEMBERS }
         requires prefix { IsPrefix self.old.pair.epochs epochs.now ⊎ IsPrefix epochs.now self.old.pair.epochs }
         requires begun { AreBegun self.old.pair epochs.now }
         requires rows { AreOwnRows (longer self.old.pair.epochs epochs.now) m (mark_at self.old.pair m) upto rows }
@@ -102,7 +107,7 @@ impl Indexer {
 
     /// Up to where maintainer m has posted: below this position.
     pub fn mark(&self, m: u32) -> Lid
-        requires { m < 16 }
+        requires { m < MEMBERS }
         ensures value { result ≡ mark_at self.now.pair m }
         ensures some { 1 ≤ result }
     {

@@ -1,9 +1,17 @@
 //! Indexers of one datacentre's log: each looks up the tags that have their home there.
 //!
-//! An [`Indexer`] is seen as an epoch list, a mark of each maintainer and a list of rows by rising position: which tags a
-//! record has, and whether it is a put. The ordered maps by which it looks up stand in no contract. To the layer above it
-//! gives that the newest put of a key and the last records with a tag, at a position that it covers, are those of every
-//! log of which it has the rows, and that it goes on having them where rows are posted and where the log grows.
+//! Model: an [`Indexer`] is seen as an epoch list, a mark of each maintainer and a list of rows by rising position:
+//! which tags a record has, and whether it is a put.
+//!
+//! To the layers above: the newest put of a key and the last records with a tag, at a position that the indexer covers,
+//! are those of every log of which it has the rows, and it goes on having them where rows are posted and where the log
+//! grows.
+//!
+//! Decided: the ordered maps by which it looks up stand in no contract; they may list a position that is not posted,
+//! where a post found no memory, and every answer is checked at the row. So a refused post changes nothing that is seen.
+//! What is covered is the head of the marks, so one rule of heads serves log and index.
+//!
+//! Tests: none here; look-ups are tested in `test_world`.
 #![tactic(auto)]
 
 mod indexer;

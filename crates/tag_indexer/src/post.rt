@@ -1,3 +1,5 @@
+//! Posts: what an indexer gets of a record, and where a tag is looked up.
+
 ghost use Rattle.std.specs.Prelude.{◌≡◌, ◌<◌, ◌≤◌, bytes_eq};
 ghost use Rattle.tag_indexer.specs.Rows.{home, is_tagged};
 
@@ -7,12 +9,15 @@ use cz_base::{Name, Seq};
 /// What an indexer gets of a record: where it stands, whether it is a put, and its tags.
 #[derive(Debug, Drop)]
 pub struct Post {
+    /// Where the record stands, and its name.
     pub place: Place,
+    /// Whether it is a put, whose one tag is its key.
     pub put: bool,
+    /// Its tags, or its key.
     pub tags: Seq<Name>,
 }
 
-/// The number of the indexer that a tag is looked up at: the sum of its bytes modulo the number of
+/// The number of the indexer, from 0, that a tag is looked up at: the sum of its bytes modulo the number of
 /// indexers.
 pub fn home(tag: &Name, indexers: u32) -> u32
     requires { 1 ≤ indexers }

@@ -2,8 +2,7 @@
 
 ghost use Rattle.std.specs.Prelude.{IsTrue};
 ghost use Rattle.std.specs.List.{All};
-ghost use Rattle.stage_world.specs.Schedules.{AreTwo, IsStep};
-ghost use Rattle.world.specs.Showing.{IsBuiltStep};
+ghost use Rattle.abstract_log.specs.Turns.{AreTwo, IsBuiltStep, IsStep};
 
 use abstract_log::{Step, Workload};
 use cz_base::DcId;

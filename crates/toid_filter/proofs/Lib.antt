@@ -1,3 +1,4 @@
+-- What calls and laws of filters stand on: shares, what is held and passed, sums, marks.
 pub mod ShareLemmas
 pub mod Tests
 pub mod Reached

@@ -163,7 +163,7 @@ share_from-append : (f : Share) (xs : List Share) (n : Share) (t : ℕ) → shar
 share_from-append f [] n t = refl
 share_from-append f (x ∷ xs) n t = share_from-append (cond (leb x.start t) x f) xs n t
 
-last_of_shares-push : (f : Share) (xs : List Share) (n : Share) → last_of_shares f (xs ++ n ∷ []) ≡ n
+pub last_of_shares-push : (f : Share) (xs : List Share) (n : Share) → last_of_shares f (xs ++ n ∷ []) ≡ n
 last_of_shares-push f [] n = refl
 last_of_shares-push f (x ∷ xs) n = last_of_shares-push x xs n
 

@@ -2,6 +2,7 @@
 use Rattle.std.specs.Prelude.{◌≡◌, ℕ, ◌+◌, ◌-◌, ◌%◌, ◌<◌, ◌≤◌, if◌then◌else◌, nat_le, List, [], ◌∷◌, ◌++◌, length, replicate, slice_index_or, slice_set, All}
 use Rattle.std.specs.List.{AllPairs}
 use Rattle.toid_filter.specs.declared.champions.Share.{Share}
+use Rattle.cz_base.specs.declared.limits.TheConstants.{DATACENTRES}
 
 -- where a host has no share, one filter serves all its numbers
 abbrev pub sole_share : Share
@@ -29,10 +30,10 @@ pub record AreShares (shares : List Share) : Type 0 where
   pub filters : All (λ e. 1 ≤ e.filters) shares
   pub rising : AllPairs (λ e f. e.start < f.start) shares
 
--- a champion map: the shares of 1 to 8 hosts
+-- a champion map: the shares of 1 to `DATACENTRES` hosts
 pub record IsMap (map : List (List Share)) : Type 0 where
   pub some : 1 ≤ length map
-  pub few : length map ≤ 8
+  pub few : length map ≤ DATACENTRES
   pub each : All AreShares map
 
 -- for each host one share, of so many filters

@@ -10,6 +10,7 @@ use Rattle.toid_filter.specs.declared.filter.Mark.{Mark}
 use Rattle.toid_filter.specs.declared.filter.Verdict.{Verdict}
 use Rattle.toid_filter.specs.declared.filter.Verdict.TheVariants.{Passed, Held, Dropped}
 use Rattle.toid_filter.specs.Champions.{champion, last_share, Serves}
+use Rattle.cz_base.specs.declared.limits.TheConstants.{MEMBERS}
 
 -- What a filter has: its number and champion map; for each host the greatest number that it passed, 0 before the first;
 -- the records held, by host and then by number; what it passed on; a mark that it accepted.
@@ -187,7 +188,7 @@ mark_accepted (Some a) i = if nat_lt i a.next then Some (record { host = a.host;
 
 -- The filters of a datacentre are steady, and so sound, by one map; the accepted marks are those of the filters that the announcement has
 -- heard, and there is none without one; what is announced is of a host that there is, is later than the last share, leaves at
--- most 16 filters and asks none that is not there; every champion is there.
+-- most `MEMBERS` filters and asks none that is not there; every champion is there.
 pub record AreSound (map : List (List Share)) (announcement : Option Announcement) (fs : List FilterState) : Type 0 where
   pub each : All IsSteady fs
   pub one_map : All (λ f. f.map ≡ map) fs
@@ -196,7 +197,7 @@ pub record AreSound (map : List (List Share)) (announcement : Option Announcemen
   pub host : (a : Announcement) → announcement ≡ Some a → a.host < length map
   pub asked : (a : Announcement) → announcement ≡ Some a → a.next ≤ length fs
   pub later : (a : Announcement) → announcement ≡ Some a → (last_share map a.host).start < a.mark
-  pub room : (a : Announcement) → announcement ≡ Some a → (last_share map a.host).filters < 16
+  pub room : (a : Announcement) → announcement ≡ Some a → (last_share map a.host).filters < MEMBERS
   pub there : (h t : ℕ) → champion map h t < length fs
   pub enough : (h : ℕ) → (last_share map h).filters ≤ length fs
 

@@ -1,3 +1,4 @@
+-- Definitions of champions, of filters and what a take leaves, and of marks and sums.
 pub mod Champions
 pub mod Filters
 pub mod Laws

@@ -1,5 +1,8 @@
+//! Champions: which filter serves each number of each host.
+
 ghost use Rattle.std.specs.Prelude.{◌≡◌, ◌<◌, ◌≤◌, ◌↔◌, [], length, slice_index_or, IfOk, IsTrue};
 ghost use Rattle.toid_filter.specs.Champions.{champion, dealt_by, first_map, AreShares, IsServedBy, Serves};
+ghost use Rattle.cz_base.specs.declared.limits.TheConstants.{DATACENTRES};
 
 use cz_base::{DcId, NoMemory, Seq, Toid};
 use std::alloc::Global;
@@ -8,7 +11,9 @@ use std::marker::Model;
 /// From number `start` of a host on, so many filters share its numbers among them.
 #[derive(Clone, Copy, Debug, PartialEq, Eq)]
 pub struct Share {
+    /// The first number that is dealt so, from 1.
     pub start: Toid,
+    /// How many filters there are for the host, from 1.
     pub filters: u32,
 }
 
@@ -69,7 +74,7 @@ impl Model for Champions {
 impl Champions {
     /// For each host one share from number 1 on.
     pub fn first(alloc: Global, dcs: u32, filters: u32) -> Result<Self, NoMemory>
-        requires dcs { (1 ≤ dcs) × (dcs ≤ 8) }
+        requires dcs { (1 ≤ dcs) × (dcs ≤ DATACENTRES) }
         requires filters { 1 ≤ filters }
         ensures { IfOk result (λ map. map ≡ first_map dcs filters) }
     {
@@ -96,10 +101,10 @@ impl Champions {
         })
     }
 
-    /// How many datacentres there are.
+    /// How many datacentres there are, 1 to [`cz_base::limits::DATACENTRES`].
     pub fn dcs(&self) -> u32
         ensures value { result ≡ length self.now }
-        ensures within { (1 ≤ result) × (result ≤ 8) }
+        ensures within { (1 ≤ result) × (result ≤ DATACENTRES) }
     {
         self.hosts.len() as u32
     }

@@ -1,3 +1,5 @@
+//! One filter: what it passed, what it holds, and what it passes on.
+
 ghost use Rattle.std.specs.Prelude.{◌≡◌, [], ◌∷◌, ◌++◌, ◌+◌, ◌^◌, ◌<◌, ◌≤◌, ◌↔◌, true, false, All, drop, length, map, take, vec_capacity, vec_len, IfErr, IfOk, IsTrue, OnErr, OnOk};
 ghost use Rattle.std.specs.List.{AllPairs};
 ghost use Rattle.causal_deps.specs.declared.record.Item.TheVariants.{Local, External};
@@ -14,7 +16,9 @@ use std::mem;
 /// From number `from` of a host on, one filter more is to serve that host.
 #[derive(Clone, Copy, Debug, PartialEq, Eq)]
 pub struct Mark {
+    /// The host whose numbers are meant.
     pub host: DcId,
+    /// The first number that the new filter may serve.
     pub from: Toid,
 }
 
@@ -114,7 +118,7 @@ impl Filter {
         if self.out.reserve(1).is_err() {
             return Err(Back { value: draft });
         }
-        push_in_room(&mut self.out, Item::Local(draft));
+        self.out.push_reserved(Item::Local(draft));
         Ok(())
     }
 
@@ -174,7 +178,7 @@ impl Filter {
         }
         let (host, toid) = (rec.host, rec.toid);
         self.reached.raise(host, toid);
-        push_in_room(&mut self.out, Item::External(rec));
+        self.out.push_reserved(Item::External(rec));
         pass_first(
             &mut self.held,
             host,
@@ -219,19 +223,6 @@ impl Filter {
     }
 }
 
-/// The item goes last, where there is room for it.
-fn push_in_room(out: &mut Vec<Item>, item: Item)
-    requires { vec_len out.old < vec_capacity out.old }
-    ensures items { out.new.items ≡ out.old.items ++ item ∷ [] }
-    ensures len { vec_len out.new ≡ vec_len out.old + 1 }
-    ensures capacity { vec_capacity out.old ≤ vec_capacity out.new }
-{
-    match out.push(item) {
-        Ok(()) => {}
-        Err(_) => unreachable!(),
-    }
-}
-
 /// The first held records from number t of host h on pass, where there is room for them.
 fn pass_first(
     held: &mut Held,
@@ -254,6 +245,6 @@ fn pass_first(
             unreachable!();
         };
         reached.raise(rec.host, rec.toid);
-        push_in_room(out, Item::External(rec));
+        out.push_reserved(Item::External(rec));
     }
 }

@@ -11,6 +11,7 @@ ghost use Rattle.toid_filter.specs.Filters.{FilterState, Announcement, activated
 ghost use Rattle.toid_filter.specs.Marks.{accepted_next, asked_next, filters_grown, grown_by};
 ghost use Rattle.toid_filter.specs.Sums.{added_by, items_of, LosesNothing};
 ghost use Rattle.toid_filter.specs.Laws.{AreTaken, AreTakenByChampions, HasPassed, HavePassed, IsKnownToChampion, Waits};
+ghost use Rattle.cz_base.specs.declared.limits.TheConstants.{DATACENTRES, MEMBERS};
 
 /// What a take leaves is determined: it is the one filter that the record leads to.
 pub fn takes_are_determined()
@@ -44,7 +45,7 @@ pub fn held_records_wait()
 
 /// The filters that a datacentre begins with are sound together.
 pub fn new_filters_are_sound()
-    ensures { (dcs filters : ℕ) (fs : List FilterState) → 1 ≤ dcs → dcs ≤ 8 → 1 ≤ filters → length fs ≡ filters → ((i : ℕ) → i < filters → filter_at fs i ≡ new_filter i (first_map dcs filters)) → AreSound (first_map dcs filters) None fs }
+    ensures { (dcs filters : ℕ) (fs : List FilterState) → 1 ≤ dcs → dcs ≤ DATACENTRES → 1 ≤ filters → length fs ≡ filters → ((i : ℕ) → i < filters → filter_at fs i ≡ new_filter i (first_map dcs filters)) → AreSound (first_map dcs filters) None fs }
 {}
 
 /// All filters of a datacentre together pass no number twice.
@@ -91,7 +92,7 @@ pub fn activating_loses_nothing()
 
 /// The filters stay sound when one filter more is announced for a host.
 pub fn announcing_keeps_filters_sound()
-    ensures { (shares : List (List Share)) (fs : List FilterState) (h mark : ℕ) → AreSound shares None fs → h < length shares → (last_share shares h).start < mark → (last_share shares h).filters < 16 → AreSound shares (Some (record { host = h; mark = mark; next = 0 })) fs }
+    ensures { (shares : List (List Share)) (fs : List FilterState) (h mark : ℕ) → AreSound shares None fs → h < length shares → (last_share shares h).start < mark → (last_share shares h).filters < MEMBERS → AreSound shares (Some (record { host = h; mark = mark; next = 0 })) fs }
 {}
 
 /// They stay sound when the next one accepts the mark, where it passed no number of the host at or above it.
@@ -105,8 +106,8 @@ pub fn cancelling_keeps_filters_sound()
 {}
 
 /// They stay sound, by the grown map, when all accepted the mark and take that map, with one filter more where it is needed;
-/// and there are no more than 16.
+/// and there are no more than members may be.
 pub fn activating_keeps_filters_sound()
     ensures sound { (shares : List (List Share)) (a : Announcement) (fs : List FilterState) → AreSound shares (Some a) fs → length fs ≤ a.next → AreSound (grown_by a shares) None (filters_grown a shares fs) }
-    ensures few { (shares : List (List Share)) (a : Announcement) (fs : List FilterState) → AreSound shares (Some a) fs → length fs ≤ a.next → length fs ≤ 16 → length (filters_grown a shares fs) ≤ 16 }
+    ensures few { (shares : List (List Share)) (a : Announcement) (fs : List FilterState) → AreSound shares (Some a) fs → length fs ≤ a.next → length fs ≤ MEMBERS → length (filters_grown a shares fs) ≤ MEMBERS }
 {}

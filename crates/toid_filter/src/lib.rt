@@ -2,17 +2,24 @@
 //!
 //! Every number of a host has one champion among the filters, by a map that deals the numbers round
 //! and round. A filter passes its own numbers of a host in order, so those that it passed are all
-//! its own numbers up to one bound: the greatest that it passed. That bound, one for each host,
-//! stands in the model in place of a list, and a million numbers passed take no more memory than
-//! none. It also serves when the map grows: that happens at a mark above all that was passed, and
-//! below the mark the map deals as before.
+//! its own numbers up to one bound: the greatest that it passed.
 //!
-//! What a filter holds stands in an ordered map, by host and then by number. A take looks once for
-//! the record there, and once for each held record that it lets go on.
+//! Model: [`Champions`] is seen as the shares of each host, and a [`Filter`] as a `FilterState`: the map,
+//! for each host that bound, what is held, what is to be passed on, and an accepted mark. What a call of
+//! `take` does is the relation `IsTaken`.
 //!
-//! The model of a filter is a `FilterState`; what a call of `take` does is the relation `IsTaken`.
-//! The layer above gets from it that each number passes at most once, in rising order, and that
-//! nothing is lost.
+//! To the layers above: each number passes at most once, in rising order, and nothing is lost; of all
+//! filters together at most one passes a number, also while one filter more is announced, accepted and
+//! activated for a host (`laws`).
+//!
+//! Decided: the bound of a host stands in the model in place of a list of numbers, so that a million
+//! numbers passed take no more memory than none. It also serves when the map grows: that happens at a
+//! mark above all that was passed, and below the mark the map deals as before. What a filter holds
+//! stands in an ordered map, by host and then by number: a take looks once for the record there, and
+//! once for each held record that it lets go on. After want of memory a filter is as before, and the
+//! record comes back.
+//!
+//! Tests: the crate `test_filters`.
 #![tactic(auto)]
 
 mod champions;

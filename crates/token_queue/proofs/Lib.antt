@@ -1,3 +1,4 @@
+-- What calls and laws of the token and queues stand on: lists, items, drains, stampings, dealing.
 pub mod ListLemmas
 pub mod ItemLemmas
 pub mod DrainLemmas

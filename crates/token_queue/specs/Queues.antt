@@ -9,6 +9,7 @@ use Rattle.token_queue.specs.declared.entry.Entry.{Entry}
 use Rattle.token_queue.specs.declared.entry.Stamp.{Stamp}
 use Rattle.token_queue.specs.Items.{FitsItem, is_ready, record_from, first_out}
 use Rattle.token_queue.specs.Drain.{Drained, counts_with, drain_by}
+use Rattle.cz_base.specs.declared.limits.TheConstants.{MEMBERS}
 
 -- the datacentre, how many records of each host are stamped, the last position, what could not be stamped yet, the
 -- epochs, the queue that has the token or had it last, and the number of queues
@@ -27,10 +28,10 @@ pub record IsToken (t : TokenState) : Type 0 where
   pub here : t.dc < length t.counts
   pub counted : All (λ n. n ≤ t.last) t.counts
   pub fit : All (FitsItem (length t.counts)) t.deferred
-  pub numbered : t.at < 16
-  pub ring : (1 ≤ t.queues) × (t.queues ≤ 16)
+  pub numbered : t.at < MEMBERS
+  pub ring : (1 ≤ t.queues) × (t.queues ≤ MEMBERS)
 
--- the items to be stamped, the entries to be placed by each of 16 maintainers, the epochs by which those were stamped,
+-- the items to be stamped, the entries to be placed by each maintainer that there may be, the epochs by which those were stamped,
 -- and the token
 pub record QueueState : Type 0 where
   pub number : ℕ
@@ -43,7 +44,7 @@ abbrev pub blank_outboxes : ℕ → List (List Entry)
 blank_outboxes n = replicate n []
 
 abbrev pub no_outboxes : List (List Entry)
-no_outboxes = blank_outboxes 16
+no_outboxes = blank_outboxes MEMBERS
 
 -- the entries for maintainer m
 abbrev pub outbox_for : QueueState → ℕ → List Entry

@@ -1,5 +1,8 @@
+//! A queue: the items that wait, the outboxes of the maintainers, and the token while it is here.
+
 ghost use Rattle.std.specs.Prelude.{◌≡◌, ◌+◌, ◌<◌, ◌≤◌, ◌^◌, ◌↔◌, List, [], ◌++◌, length, slice_index_or, Some, None, IsTrue, IfOk, IfErr, OnOk, OnErr, IsErrOf, All};
-ghost use Rattle.std.specs.Option.{ForSome, IsSomeAnd, option_copied};
+ghost use Rattle.std.specs.Borrow.{LendsIf, sem};
+ghost use Rattle.std.specs.Option.{ForSome, IsSomeAnd, option_copied, option_copied_mut};
 ghost use Rattle.std.specs.Vec.{vec_len, vec_capacity};
 ghost use Rattle.causal_deps.specs.declared.record.Record.{Record};
 ghost use Rattle.causal_deps.specs.Logs.{AreCountsOf};
@@ -7,9 +10,12 @@ ghost use Rattle.token_queue.specs.Items.{FitsItem};
 ghost use Rattle.token_queue.specs.Drain.{drain, drain_by};
 ghost use Rattle.token_queue.specs.Queues.{IsLogOf, IsToken, Stamps, all_of, dealt, entries_from, no_outboxes, outbox_for, stamped_queue, stamped_token, stamps_of, without_outbox};
 ghost use Rattle.token_queue.specs.Room.{HaveRoom, entries_of};
+ghost use Rattle.token_queue.specs.contracts.queue.Queue.{the_row as queue_row};
+ghost use Rattle.token_queue.specs.contracts.token.Token.{the_row as token_row};
+ghost use Rattle.cz_base.specs.declared.limits.TheConstants.{MEMBERS, NUMBERS_END};
 
 use crate::entry::stamp_of_entry;
-use crate::room::{Outbox, empty_outboxes, most_stamped, push_reserved, take_room};
+use crate::room::{Outbox, empty_outboxes, most_stamped, take_room};
 use crate::{Entry, Stamp, StampFault, Token};
 use causal_deps::Item;
 use cz_base::{Back, NoMemory, Seq};
@@ -29,24 +35,24 @@ pub struct Queue {
 }
 
 impl Model for Queue {
+    ghost use Rattle.cz_base.specs.declared.limits.TheConstants.{MEMBERS};
     ghost use Rattle.token_queue.specs.Queues.{QueueState};
     ghost use Rattle.token_queue.specs.Room.{entries_of};
 
     ghost Value = { QueueState };
 
     ghost use Rattle.std.specs.Prelude.{◌≡◌, ◌<◌};
-    ghost use Rattle.std.specs.Option.{ForSome};
     ghost use Rattle.std.specs.Vec.{vec_len};
 
     ghost view = { λ q. record { number = q.number; items = q.items.items; outboxes = entries_of q.outboxes.items; epochs = q.epochs; token = q.token } };
 
-    ghost invariant = { λ q. (q.number < 16) × ((vec_len q.outboxes ≡ 16) × ForSome q.token (λ t. t.at ≡ q.number)) };
+    ghost invariant = { λ q. (q.number < MEMBERS) × (vec_len q.outboxes ≡ MEMBERS) };
 }
 
 impl Queue {
     /// A queue with nothing in it, and without the token.
     pub fn new(alloc: Global, number: u32, epochs: Epochs) -> Result<Self, NoMemory>
-        requires { number < 16 }
+        requires { number < MEMBERS }
         ensures { IfOk result (λ queue. queue ≡ record { number = number; items = []; outboxes = no_outboxes; epochs = epochs; token = None }) }
     {
         Ok(Queue {
@@ -59,7 +65,7 @@ impl Queue {
         })
     }
 
-    /// The items go last, in order.
+    /// The items go last, in order. After want of memory they come back, and the queue is as before.
     pub fn push(&mut self, items: Seq<Item>) -> Result<(), Back<Seq<Item>>>
         ensures ok { OnOk result (self.new ≡ record self.old { items = self.old.items ++ items }) }
         ensures err { OnErr result (self.new ≡ self.old) }
@@ -94,9 +100,10 @@ impl Queue {
 
     /// Drains the deferred items, and behind them the queue's items. As long as one of them is ready, the
     /// first that is gets the next position, and a draft the next number of its datacentre; what is left is
-    /// deferred. Refused with `NoToken` exactly where the token is elsewhere.
+    /// deferred. Refused with `NoToken` exactly where the token is elsewhere; after
+    /// `NoMemory` queue and token are as before.
     pub fn stamp(&mut self) -> Result<Seq<Stamp>, StampFault>
-        requires lids { ForSome self.old.token (λ t. t.last + length (drain_by t.dc t.counts (t.deferred ++ self.old.items)).records < 2 ^ 48) }
+        requires lids { ForSome self.old.token (λ t. t.last + length (drain_by t.dc t.counts (t.deferred ++ self.old.items)).records < NUMBERS_END) }
         requires fit { ForSome self.old.token (λ t. All (FitsItem (length t.counts)) self.old.items) }
 
         // Whatever the log is, of which the token has the counts. Where its length is the token's last position, the
@@ -110,20 +117,20 @@ impl Queue {
 
         ensures no_token { IsErrOf result StampFault.NoToken ↔ (self.old.token ≡ None) }
         ensures err { OnErr result (self.new ≡ self.old) }
-        ensures outboxes { length self.old.outboxes ≡ 16 }
+        ensures outboxes { length self.old.outboxes ≡ MEMBERS }
     {
         self.stamp_by_counts()
     }
 
     // The log is nowhere: its counts are enough.
     fn stamp_by_counts(&mut self) -> Result<Seq<Stamp>, StampFault>
-        requires lids { ForSome self.old.token (λ t. t.last + length (drain_by t.dc t.counts (t.deferred ++ self.old.items)).records < 2 ^ 48) }
+        requires lids { ForSome self.old.token (λ t. t.last + length (drain_by t.dc t.counts (t.deferred ++ self.old.items)).records < NUMBERS_END) }
         requires fit { ForSome self.old.token (λ t. All (FitsItem (length t.counts)) self.old.items) }
         ensures ok { IfOk result (λ stamps. IsSomeAnd self.old.token (λ t. Stamps self.old t (drain_by t.dc t.counts (t.deferred ++ self.old.items)) stamps self.new)) }
         ensures token { OnOk result (ForSome self.old.token (λ t. IsToken t)) }
         ensures no_token { IsErrOf result StampFault.NoToken ↔ (self.old.token ≡ None) }
         ensures err { OnErr result (self.new ≡ self.old) }
-        ensures outboxes { length self.old.outboxes ≡ 16 }
+        ensures outboxes { length self.old.outboxes ≡ MEMBERS }
     {
         let Some(mut token) = self.token.take() else {
             return Err(StampFault::NoToken);
@@ -138,7 +145,7 @@ impl Queue {
 
     // The memory is taken first, so that what is refused has changed nothing.
     fn stamp_with(&mut self, token: &mut Token) -> Result<Seq<Stamp>, NoMemory>
-        requires lids { token.old.last + length (drain_by token.old.dc token.old.counts (token.old.deferred ++ self.old.items)).records < 2 ^ 48 }
+        requires lids { token.old.last + length (drain_by token.old.dc token.old.counts (token.old.deferred ++ self.old.items)).records < NUMBERS_END }
         requires fit { All (FitsItem (length token.old.counts)) self.old.items }
         ensures answer { IfOk result (λ stamps. stamps ≡ stamps_of token.old (drain_by token.old.dc token.old.counts (token.old.deferred ++ self.old.items))) }
         ensures token { OnOk result (token.new ≡ stamped_token token.old (drain_by token.old.dc token.old.counts (token.old.deferred ++ self.old.items))) }
@@ -158,10 +165,10 @@ impl Queue {
 
     /// The entries for maintainer m, which then are gone.
     pub fn take_out(&mut self, m: u32) -> Seq<Entry>
-        requires { m < 16 }
+        requires { m < MEMBERS }
         ensures entries { result ≡ outbox_for self.old m }
         ensures queue { self.new ≡ without_outbox self.old m }
-        ensures outboxes { length self.old.outboxes ≡ 16 }
+        ensures outboxes { length self.old.outboxes ≡ MEMBERS }
     {
         let alloc = self.alloc;
         self.outboxes[m as usize].take(alloc)
@@ -170,17 +177,25 @@ impl Queue {
     /// The epochs by which the queue stamped last; before its first stamping those with which it was made.
     pub fn epochs(&self) -> &Epochs
         ensures value { result.now ≡ self.now.epochs }
-        ensures kept { (self.now.number < 16) × (length self.now.outboxes ≡ 16) }
+        ensures kept { (self.now.number < MEMBERS) × (length self.now.outboxes ≡ MEMBERS) }
     {
         &self.epochs
     }
 
-    /// The token, where the queue has it; its number is that of the queue.
+    /// The token, or `None` exactly where the queue has none.
     pub fn token(&self) -> Option<&Token>
-        ensures value { option_copied result ≡ self.now.token }
-        ensures at { ForSome self.now.token (λ t. t.at ≡ self.now.number) }
+        ensures { option_copied result ≡ self.now.token }
     {
         self.token.as_ref()
+    }
+
+    /// The token, to be changed in place, or `None` exactly where the queue has none. What is left behind the reference
+    /// is the queue's token from then on.
+    pub fn token_mut(&mut self) -> Option<&mut Token>
+        ensures* writes_back { sem 𝓛 (LendsIf queue_row token_row self.entry result (λ token. record self.old { token = Some token }) self.old) }
+        ensures value { option_copied_mut result ≡ self.old.token }
+    {
+        self.token.as_mut()
     }
 
     /// Whether there are no items to be stamped. Outboxes do not count.
@@ -193,8 +208,8 @@ impl Queue {
 
 // Stamps the first deferred item that is ready, until none is.
 fn stamp_deferred(token: &mut Token, outboxes: &mut [Outbox], stamps: &mut Vec<Stamp>)
-    requires lids { token.old.last + length (all_of token.old).records < 2 ^ 48 }
-    requires members { length outboxes.old ≡ 16 }
+    requires lids { token.old.last + length (all_of token.old).records < NUMBERS_END }
+    requires members { length outboxes.old ≡ MEMBERS }
     requires stamps { vec_len stamps.old + length (all_of token.old).records ≤ vec_capacity stamps.old }
     requires room { HaveRoom token.old.epochs (token.old.last + 1) (length (all_of token.old).records) outboxes.old }
     ensures stamps { stamps.new.items ≡ stamps.old.items ++ stamps_of token.old (all_of token.old) }
@@ -203,7 +218,7 @@ fn stamp_deferred(token: &mut Token, outboxes: &mut [Outbox], stamps: &mut Vec<S
 {
     while let Some(entry) = token.stamp_next() {
         let owner = token.epochs().owner(entry.lid) as usize;
-        push_reserved(stamps, stamp_of_entry(&entry));
+        stamps.push_reserved(stamp_of_entry(&entry));
         outboxes[owner].put(entry);
     }
 }

@@ -3,15 +3,14 @@ ghost use Rattle.std.specs.Prelude.{◌≡◌, ℕ, [], ◌∷◌, ◌++◌, ◌
 ghost use Rattle.std.specs.Vec.{vec_len, vec_capacity};
 ghost use Rattle.token_queue.specs.Queues.{no_outboxes};
 ghost use Rattle.token_queue.specs.Room.{HaveRoom, entries_of, owned_among};
+ghost use Rattle.cz_base.specs.declared.limits.TheConstants.{MEMBERS, NUMBERS_END};
 
 use crate::Entry;
+use cz_base::limits::{MEMBERS, NUMBERS_END};
 use cz_base::{Lid, NoMemory, Seq};
 use flstore_rounds::Epochs;
 use std::alloc::Global;
 use std::marker::Model;
-
-/// How many maintainers there are at most.
-pub(crate) const MAX_MEMBERS: usize = 16;
 
 /// The entries for one maintainer. Contracts see beside them how many more it takes without memory.
 #[derive(Debug, Drop)]
@@ -53,7 +52,7 @@ impl Outbox {
         ensures entries { self.new.entries ≡ self.old.entries ++ entry ∷ [] }
         ensures room { self.old.room ≤ self.new.room + 1 }
     {
-        push_reserved(&mut self.entries, entry);
+        self.entries.push_reserved(entry);
     }
 
     /// All entries, which then are gone.
@@ -66,47 +65,35 @@ impl Outbox {
     }
 }
 
-/// Where there is room, a push takes no memory.
-pub(crate) fn push_reserved<T: Drop>(items: &mut Vec<T>, item: T)
-    requires { vec_len items.old < vec_capacity items.old }
-    ensures items { items.new.items ≡ items.old.items ++ item ∷ [] }
-    ensures len { vec_len items.new ≡ vec_len items.old + 1 }
-    ensures capacity { vec_capacity items.old ≤ vec_capacity items.new }
-{
-    let Ok(()) = items.push(item) else {
-        unreachable!();
-    };
-}
-
 /// An empty outbox for each maintainer that there may be.
 pub(crate) fn empty_outboxes(alloc: Global) -> Result<Vec<Outbox>, NoMemory>
-    ensures len { IfOk result (λ outboxes. vec_len outboxes ≡ MAX_MEMBERS) }
+    ensures len { IfOk result (λ outboxes. vec_len outboxes ≡ MEMBERS) }
     ensures empty { IfOk result (λ outboxes. entries_of outboxes.items ≡ no_outboxes) }
 {
     let mut outboxes = Vec::new(alloc);
-    for _made in 0..MAX_MEMBERS {
+    for _made in 0..MEMBERS {
         outboxes.push(Outbox::new(alloc))?;
     }
     Ok(outboxes)
 }
 
 /// How many of so many deferred items and items of a queue can be stamped behind the last position: positions stay
-/// below 2^48.
+/// below [`NUMBERS_END`].
 pub(crate) fn most_stamped(last: Lid, deferred: usize, items: usize) -> usize
-    requires { last < 2 ^ 48 }
-    ensures { result ≡ min (deferred + items) (2 ^ 48 - 1 - last) }
+    requires { last < NUMBERS_END }
+    ensures { result ≡ min (deferred + items) (NUMBERS_END - 1 - last) }
 {
-    let left = (1 << 48) - 1 - last;
+    let left = NUMBERS_END - 1 - last;
     deferred.saturating_add(items).min(left as usize)
 }
 
 // How many of so many positions from p on each member owns.
-fn owners(epochs: &Epochs, p: Lid, wanted: usize) -> [usize; 16]
+fn owners(epochs: &Epochs, p: Lid, wanted: usize) -> [usize; MEMBERS]
     requires first { 1 ≤ p }
-    requires lids { p + wanted ≤ 2 ^ 48 }
-    ensures { (m : ℕ) → m < 16 → slice_index result m ≡ owned_among epochs.now m p wanted }
+    requires lids { p + wanted ≤ NUMBERS_END }
+    ensures { (m : ℕ) → m < MEMBERS → slice_index result m ≡ owned_among epochs.now m p wanted }
 {
-    let mut owned = [0; MAX_MEMBERS];
+    let mut owned = [0; MEMBERS];
     for lid in p..p + wanted as u64 {
         let owner = epochs.owner(lid) as usize;
         owned[owner] += 1;
@@ -122,13 +109,13 @@ pub(crate) fn take_room(
     wanted: usize,
 ) -> Result<(), NoMemory>
     requires first { 1 ≤ p }
-    requires lids { p + wanted ≤ 2 ^ 48 }
-    requires members { length outboxes.old ≡ MAX_MEMBERS }
+    requires lids { p + wanted ≤ NUMBERS_END }
+    requires members { length outboxes.old ≡ MEMBERS }
     ensures same { entries_of outboxes.new ≡ entries_of outboxes.old }
     ensures ok { OnOk result (HaveRoom epochs.now p wanted outboxes.new) }
 {
     let owned = owners(epochs, p, wanted);
-    for m in 0..MAX_MEMBERS {
+    for m in 0..MEMBERS {
         outboxes[m].reserve(owned[m])?;
     }
     Ok(())

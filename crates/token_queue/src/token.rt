@@ -1,8 +1,11 @@
+//! The token, and how it stamps the items that it defers.
+
 ghost use Rattle.std.specs.Prelude.{◌≡◌, ◌+◌, ◌%◌, ◌<◌, ◌≤◌, ◌^◌, [], length, replicate, slice_index, All};
 ghost use Rattle.std.specs.Option.{ForSome, option_map, option_map_or};
 ghost use Rattle.std.specs.List.{position};
 ghost use Rattle.token_queue.specs.Items.{FitsItem, is_ready, record_from};
 ghost use Rattle.token_queue.specs.Queues.{IsToken, entry_after, next_out, token_after};
+ghost use Rattle.cz_base.specs.declared.limits.TheConstants.{DATACENTRES, MEMBERS, NUMBERS_END};
 
 use crate::Entry;
 use causal_deps::{Counts, Item, Record, draft_ready, ready};
@@ -37,9 +40,9 @@ impl Model for Token {
 impl Token {
     /// The token of a datacentre that has stamped nothing, at its first queue.
     pub fn first(alloc: Global, dc: DcId, dcs: u32, queues: u32, epochs: Epochs) -> Self
-        requires dcs { (1 ≤ dcs) × (dcs ≤ 8) }
+        requires dcs { (1 ≤ dcs) × (dcs ≤ DATACENTRES) }
         requires dc { dc < dcs }
-        requires queues { (1 ≤ queues) × (queues ≤ 16) }
+        requires queues { (1 ≤ queues) × (queues ≤ MEMBERS) }
         ensures { result ≡ record { dc = dc; counts = replicate dcs 0; last = 0; deferred = []; epochs = epochs; at = 0; queues = queues } }
     {
         Token {
@@ -96,7 +99,7 @@ impl Token {
 
     /// The first deferred item that is ready becomes the record at the next position.
     pub(crate) fn stamp_next(&mut self) -> Option<Entry>
-        requires { ForSome (next_out self.old) (λ _. self.old.last + 1 < 2 ^ 48) }
+        requires { ForSome (next_out self.old) (λ _. self.old.last + 1 < NUMBERS_END) }
         ensures entry { result ≡ option_map (entry_after self.old) (next_out self.old) }
         ensures token { self.new ≡ option_map_or (token_after self.old) (next_out self.old) self.old }
     {
@@ -136,7 +139,7 @@ fn first_ready(counts: &Counts, items: &[Item]) -> Option<usize>
 // The record that an item becomes. A draft gets the next number of its datacentre.
 fn into_record(dc: DcId, counts: &Counts, item: Item) -> Record
     requires dc { dc < length counts.now }
-    requires toid { slice_index counts.now dc + 1 < 2 ^ 48 }
+    requires toid { slice_index counts.now dc + 1 < NUMBERS_END }
     requires fit { FitsItem (length counts.now) item }
     ensures { result ≡ record_from dc counts.now item }
 {

@@ -8,7 +8,8 @@ use Rattle.abstract_log.specs.declared.script.Step.{Step}
 use Rattle.stage_world.specs.Stages.{Datacentre, Stages}
 use Rattle.stage_world.specs.Turns.{Turned}
 use Rattle.stage_world.specs.LinkTurns.{moved_at}
-use Rattle.stage_world.specs.Schedules.{place_of_step, step_of, turn_of}
+use Rattle.abstract_log.specs.Turns.{place_of_step}
+use Rattle.stage_world.specs.Schedules.{step_of, turn_of}
 use Rattle.stage_world.specs.Whole.{datacentre_at, nowhere_at}
 use Rattle.stage_world.specs.Idle.{TellsChange, apart_from_epochs}
 use Rattle.world.specs.Showing.{TellsIdle, uses_link}

@@ -25,7 +25,8 @@ use Rattle.stage_world.specs.StandsFor.{StandsAt}
 use Rattle.stage_world.specs.Turns.{Turned, quiet, where_there}
 use Rattle.stage_world.specs.MoreTurns.{message_of, names_of, receive_turn}
 use Rattle.stage_world.specs.LinkTurns.{Moved, deliver_turn, has_lost, link_length, moved_at, put_in_link, send_turn, still, with_link}
-use Rattle.stage_world.specs.Schedules.{IsStep, place_of_step, step_of, turn_of}
+use Rattle.abstract_log.specs.Turns.{IsBuiltStep, IsStep, place_of_step}
+use Rattle.stage_world.specs.Schedules.{step_of, turn_of}
 use Rattle.stage_world.specs.Whole.{IsTold, datacentre_at, link_at}
 use Rattle.stage_turns.specs.declared.done.TurnDone.{TurnDone}
 use Rattle.datacentre.specs.Seen.{StandsForALog}
@@ -33,7 +34,7 @@ use Rattle.datacentre.specs.Turning.{IsBuilt}
 use Rattle.stage_turns.proofs.ToldLemmas.{links_spelled}
 use Rattle.world.specs.declared.network.Network.{Network}
 use Rattle.world.specs.Links.{AreThere, copy_outcome, lose_outcome, outcome_of_copy, packets_at, with_packets}
-use Rattle.world.specs.Showing.{HasMoved, HasSent, HasTurned, IsBuiltStep, IsSeenAt, MayReceiveAt, MaySendAt, MayStep, MayTurnAt, Shows, packets_of, uses_link}
+use Rattle.world.specs.Showing.{HasMoved, HasSent, HasTurned, IsSeenAt, MayReceiveAt, MaySendAt, MayStep, MayTurnAt, Shows, packets_of, uses_link}
 use Rattle.world.proofs.LinkLemmas.{has_lost-map, message_at-map, packets_at_is, put_last-map, with_same, without-map, without_none}
 use Rattle.world.proofs.NetworkLemmas.{datacentres_there, rows_there, shows_link, shows_turn, state_there}
 

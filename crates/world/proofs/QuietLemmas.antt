@@ -10,10 +10,9 @@ use Rattle.abstract_log.specs.Worlds.{start}
 use Rattle.log_laws.proofs.LimitedRuns.{laws_of_run}
 use Rattle.stage_world.proofs.OpeningLemmas.{opening_stands_for}
 use Rattle.stage_world.specs.Opening.{opening}
-use Rattle.stage_world.specs.Schedules.{IsStep}
+use Rattle.abstract_log.specs.Turns.{IsBuiltStep, IsStep}
 use Rattle.settling_laws.proofs.Quiet.{opening_calm, steps_calm}
 use Rattle.settling_laws.specs.Ending.{AreQuiet, IsCalm}
-use Rattle.world.specs.Showing.{IsBuiltStep}
 use Rattle.world.specs.Taking.{Taken, stages_after, steps_of}
 
 calm_if_built : (step : Step) → IsBuiltStep step → IsCalm step

@@ -16,7 +16,8 @@ use Rattle.log_laws.specs.Lawful.{IsLawful}
 use Rattle.log_laws.proofs.LimitedRuns.{laws_of_run, workload_is}
 use Rattle.stage_world.specs.Stages.{Stages}
 use Rattle.stage_world.specs.Opening.{opening}
-use Rattle.stage_world.specs.Schedules.{IsStep, after_steps, events_of, step_of}
+use Rattle.abstract_log.specs.Turns.{IsBuiltStep, IsStep}
+use Rattle.stage_world.specs.Schedules.{after_steps, events_of, step_of}
 use Rattle.stage_world.specs.Settling.{IsSettling}
 use Rattle.stage_world.specs.Whole.{StandsFor}
 use Rattle.stage_world.proofs.AllTurns.{schedule}
@@ -24,7 +25,6 @@ use Rattle.settling_laws.specs.Ending.{IsFinishedBy}
 use Rattle.world.specs.declared.stages.Played.{Played}
 use Rattle.world.specs.Replays.{IsReplayed}
 use Rattle.world.specs.Settled.{HasPlayed, Plays}
-use Rattle.world.specs.Showing.{IsBuiltStep}
 use Rattle.world.specs.Taking.{HasTaken, IsPlayed, IsTaken, StagesState, Taken, events_after, settled as settled_steps, stages_after, steps_of, taken_of}
 use Rattle.world.proofs.RoundLemmas.{take_all}
 use Rattle.world.proofs.SettledLemmas.{steps_played}

@@ -24,13 +24,13 @@ module _ (d : ℕ) (z : Datacentre) (x : DatacentreState) (sizes : Sizes) (holde
   queues_are = ap (λ (s : Sizes). s.queues) sizes_are
 
   pub has_queue : 1 ≤ sizes.queues
-  has_queue = omega (arith, queues_are, known.log.stands.members.holder)
+  has_queue = omega (arith, queues_are, known.log.stands.membership.members.holder)
 
   pub few_queues : sizes.queues ≤ 2147483648
-  few_queues = omega (arith, queues_are, known.log.stands.members.ranges.queues.1)
+  few_queues = omega (arith, queues_are, known.log.stands.membership.members.ranges.queues.1)
 
   pub holds_within : holder < sizes.queues
-  holds_within = omega (arith, queues_are, holder_is, known.log.stands.members.holder)
+  holds_within = omega (arith, queues_are, holder_is, known.log.stands.membership.members.holder)
 
   pub round_is : (sessions : List Session) (s0 s1 s2 s3 s4 s5 s6 s7 s8 : List Step) → ForSome x.stages (λ y. sessions ≡ y.sessions)
       → s1 ≡ s0 ++ map (λ (y : Session). Client y.number) sessions

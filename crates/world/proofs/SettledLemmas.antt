@@ -13,10 +13,10 @@ use Rattle.stage_world.specs.Opening.{opening}
 use Rattle.abstract_log.specs.declared.script.Step.TheVariants.{Deliver, Send}
 use Rattle.stage_world.specs.LinkTurns.{link_length}
 use Rattle.stage_world.specs.Whole.{datacentre_at}
-use Rattle.stage_world.specs.Schedules.{AreTwo, IsStep, after_steps, step_of}
+use Rattle.abstract_log.specs.Turns.{AreTwo, IsBuiltStep, IsStep}
+use Rattle.stage_world.specs.Schedules.{after_steps, step_of}
 use Rattle.stage_world.specs.Settling.{Errand, IsSettling, after_passes, all_rounds, answering_rounds, below, errand_turns, errands, exchange, exchange_turns, has_unanswered, is_answering, is_due, is_unfinished, rounds, sent_and_delivered, telling_rounds, turns_of_passes}
 use Rattle.world.specs.Settled.{HasLooped, MayBePlayed, Plays}
-use Rattle.world.specs.Showing.{IsBuiltStep}
 use Rattle.world.specs.Links.{AreThere, packets_at}
 use Rattle.world.proofs.MovingLemmas.{length_are, links_there}
 use Rattle.world.proofs.RoundLemmas.{all_below, take_all}

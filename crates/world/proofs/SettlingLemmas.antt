@@ -12,13 +12,12 @@ use Rattle.log_laws.proofs.LimitedRuns.{workload_is}
 use Rattle.abstract_log.specs.Worlds.{log_of}
 use Rattle.abstract_log.specs.Runs.{world_of}
 use Rattle.stage_world.specs.Opening.{numbered}
-use Rattle.stage_world.specs.Schedules.{AreTwo, IsStep}
+use Rattle.abstract_log.specs.Turns.{AreTwo, IsBuiltStep, IsStep}
 use Rattle.stage_world.specs.Settling.{Errand, below, clients, errands, flushes, gossips, local_round, passes, places, posts, ring, rounds}
 use Rattle.stage_world.specs.Stages.{Datacentre, Session, Stages}
 use Rattle.stage_world.specs.StandsFor.{IsAsFar, StandsAt}
 use Rattle.stage_world.specs.Whole.{StandsFor, datacentre_at}
 use Rattle.world.specs.Settled.{MayBePlayed, errands_between, errands_from}
-use Rattle.world.specs.Showing.{IsBuiltStep}
 use Rattle.world.specs.Taking.{HasTaken, StagesState, Taken, stages_after}
 use Rattle.world.proofs.RoundLemmas.{all_below, all_flat, all_numbered}
 use Rattle.world.proofs.TakingLemmas.{run_of}
@@ -69,7 +68,7 @@ module _ (load : Workload) (d : ℕ) (z : Datacentre) (within : d < load.dcs) wh
 
 -- the sessions of a datacentre are there
 sessions_there : (w : World) (d : ℕ) (z : Datacentre) → StandsAt w d z → All (λ (x : Session). x.number < length w.workload.sessions) z.sessions
-sessions_there w d z stands = All-weaker (IsAsFar w.workload w.sessions (log_of w d) d z.floor) (λ (x : Session). x.number < length w.workload.sessions) (λ x far. far.home.there) z.sessions stands.sessions
+sessions_there w d z stands = All-weaker (IsAsFar w.workload w.sessions (log_of w d) d z.floor) (λ (x : Session). x.number < length w.workload.sessions) (λ x far. far.home.there) z.sessions stands.clients.sessions
 
 pub rounds_may : (script : Script) (ts : List Taken) (s : StagesState) (ds : List ℕ) → HasTaken script ts s → All (λ d. d < s.workload.dcs) ds → MayBePlayed s.workload (rounds (stages_after script ts) ds)
 rounds_may script ts s ds h there =

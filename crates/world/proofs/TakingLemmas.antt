@@ -15,7 +15,8 @@ use Rattle.abstract_log.specs.Runs.{IsRun, world_of}
 use Rattle.log_laws.proofs.LimitedRuns.{laws_of_run, workload_is}
 use Rattle.stage_world.specs.Stages.{Stages}
 use Rattle.stage_world.specs.Opening.{opening}
-use Rattle.stage_world.specs.Schedules.{IsStep, after_steps, events_of, step_of}
+use Rattle.abstract_log.specs.Turns.{IsBuiltStep, IsStep}
+use Rattle.stage_world.specs.Schedules.{after_steps, events_of, step_of}
 use Rattle.stage_world.specs.Idle.{IsIdleTurn}
 use Rattle.stage_world.specs.Whole.{StandsFor}
 use Rattle.stage_world.proofs.AllTurns.{schedule}
@@ -23,7 +24,7 @@ use Rattle.stage_turns.specs.declared.done.TurnDone.{TurnDone}
 use Rattle.datacentre.specs.Leaving.{IsLeftBy}
 use Rattle.world.specs.declared.network.Network.{Network}
 use Rattle.world.specs.declared.stages.Played.{Played}
-use Rattle.world.specs.Showing.{HasMoved, IsBuiltStep, MayStep, Shows, TellsIdle}
+use Rattle.world.specs.Showing.{HasMoved, MayStep, Shows, TellsIdle}
 use Rattle.world.specs.Taking.{AreLines, HasTaken, IsBefore, IsPlayed, IsTaken, StagesState, Taken, events_after, line_of, lines_told, stages_after, steps_of}
 use Rattle.world.proofs.LeftLemmas.{left_of_all}
 

@@ -9,11 +9,11 @@ use Rattle.abstract_log.specs.declared.world.World.{World}
 use Rattle.log_laws.specs.Lawful.{IsLawful}
 use Rattle.stage_world.specs.Stages.{Datacentre, Stages}
 use Rattle.stage_world.specs.Opening.{numbered}
-use Rattle.stage_world.specs.Schedules.{IsStep}
+use Rattle.abstract_log.specs.Turns.{IsBuiltStep, IsStep}
 use Rattle.stage_world.specs.Settling.{Errand, IsLoop, below, is_answering}
 use Rattle.stage_world.specs.Whole.{StandsFor}
 use Rattle.datacentre.specs.Seen.{DatacentreState, StandsForALog}
-use Rattle.world.specs.Showing.{IsBuiltStep, states_from}
+use Rattle.world.specs.Showing.{states_from}
 use Rattle.world.specs.Taking.{HasTaken, StagesState, Taken, settled, stages_after}
 
 -- The stages went on from those after these turns: they took more turns of settling, which are such turns.

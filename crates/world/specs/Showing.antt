@@ -1,5 +1,5 @@
 -- The datacentres and links of the code, and the stage world that they show.
-use Rattle.std.specs.Prelude.{◌≡◌, ⊤, ℕ, ◌+◌, ◌<◌, ◌∷◌, Bool, true, false, List, [], length, map, slice_index_or, slice_set, All, Option, Some}
+use Rattle.std.specs.Prelude.{◌≡◌, ℕ, ◌+◌, ◌<◌, ◌∷◌, Bool, true, false, List, [], length, map, slice_index_or, slice_set, All, Option, Some}
 use Rattle.abstract_log.specs.declared.command.Workload.{Workload}
 use Rattle.abstract_log.specs.declared.script.Script.{Script}
 use Rattle.abstract_log.specs.declared.script.Step.{Step}
@@ -11,7 +11,8 @@ use Rattle.record_codec.specs.Wire.{message_bytes}
 use Rattle.stage_world.specs.Stages.{Datacentre, Stages}
 use Rattle.stage_world.specs.Opening.{one_of_each, opening_at}
 use Rattle.stage_world.specs.LinkTurns.{Moved}
-use Rattle.stage_world.specs.Schedules.{IsStep, turn_of}
+use Rattle.abstract_log.specs.Turns.{IsBuiltStep, IsStep}
+use Rattle.stage_world.specs.Schedules.{turn_of}
 use Rattle.stage_world.specs.Idle.{IsIdleTurn, TellsChange}
 use Rattle.stage_world.specs.Whole.{StandsFor}
 use Rattle.stage_turns.specs.declared.done.TurnDone.{TurnDone}
@@ -55,31 +56,6 @@ pub record HasMoved (dcs : ℕ) (moved : Moved) (network : Network) (done : Turn
 pub record TellsIdle (load : Workload) (z : Stages) (step : Step) (changed : Bool) : Type 0 where
   pub idle : changed ≡ false → IsIdleTurn load z step
   pub other : changed ≡ true → IsIdleTurn load z step → ⊥
-
--- the turns that are built so far
-abbrev pub IsBuiltStep : Step → Type 0
-IsBuiltStep (Client s) = ⊤
-IsBuiltStep (Flush d b) = ⊤
-IsBuiltStep (Pass d f q) = ⊤
-IsBuiltStep (Stamp d q) = ⊤
-IsBuiltStep (Token d) = ⊤
-IsBuiltStep (Place d q m) = ⊤
-IsBuiltStep (Gossip d m k) = ⊤
-IsBuiltStep (Post d m i) = ⊤
-IsBuiltStep (Learn d) = ⊤
-IsBuiltStep (Send d k e) = ⊤
-IsBuiltStep (Deliver d e k r) = ⊤
-IsBuiltStep (Lose d e k) = ⊤
-IsBuiltStep (Copy d e k) = ⊤
-IsBuiltStep (Floor d p) = ⊤
-IsBuiltStep (Collect d m) = ⊤
-IsBuiltStep (Announce d h t) = ⊥
-IsBuiltStep (Mark d) = ⊥
-IsBuiltStep (AddMaintainer d p) = ⊥
-IsBuiltStep (AddBatcher d) = ⊥
-IsBuiltStep (AddQueue d) = ⊥
-IsBuiltStep (AddSender d) = ⊥
-IsBuiltStep (AddReceiver d) = ⊥
 
 -- a turn that uses a link
 abbrev pub uses_link : Step → Bool

@@ -11,12 +11,13 @@ use Rattle.abstract_log.specs.Left.{left_of}
 use Rattle.abstract_log.specs.Runs.{IsRun, world_of}
 use Rattle.stage_world.specs.Stages.{Stages}
 use Rattle.stage_world.specs.Opening.{opening}
-use Rattle.stage_world.specs.Schedules.{IsStep, after_steps, events_of, step_of}
+use Rattle.abstract_log.specs.Turns.{IsBuiltStep, IsStep}
+use Rattle.stage_world.specs.Schedules.{after_steps, events_of, step_of}
 use Rattle.stage_world.specs.Idle.{IsIdleTurn}
 use Rattle.stage_world.specs.Whole.{StandsFor}
 use Rattle.world.specs.declared.network.Network.{Network}
 use Rattle.world.specs.declared.stages.Played.{Played}
-use Rattle.world.specs.Showing.{IsBuiltStep, Shows}
+use Rattle.world.specs.Showing.{Shows}
 
 -- a turn that was taken, and whether it belongs to settling
 pub record Taken : Type 0 where

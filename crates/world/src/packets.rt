@@ -47,7 +47,7 @@ fn put_in_row(row: &mut Seq<Link>, e: DcId, packet: Packet) -> PutDone
     ensures row { row.new ≡ slice_set row.old e (put_last (slice_index_or row.old e []) packet) }
 {
     let link = row.item_mut(e.number() as usize);
-    let changed = !link.is_kept_by_put(&packet);
+    let changed = !link.is_full_of(&packet);
     let lost = link.put(packet).is_some();
     PutDone { lost, changed }
 }

@@ -2,10 +2,9 @@
 ghost use Rattle.std.specs.Prelude.{IfOk};
 ghost use Rattle.std.specs.List.{All};
 ghost use Rattle.abstract_log.specs.Fits.{FitsScript};
-ghost use Rattle.stage_world.specs.Schedules.{IsStep};
+ghost use Rattle.abstract_log.specs.Turns.{IsBuiltStep, IsStep};
 ghost use Rattle.world.specs.Taking.{HasTaken, taken_of};
 ghost use Rattle.world.specs.Replays.{IsReplayed};
-ghost use Rattle.world.specs.Showing.{IsBuiltStep};
 
 use crate::stages::{Played, Stages};
 use abstract_log::Script;

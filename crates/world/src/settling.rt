@@ -2,14 +2,14 @@
 ghost use Rattle.std.specs.Prelude.{◌≡◌, ◌<◌, true, OnOk, OnErr, IsErr};
 ghost use Rattle.std.specs.List.{All};
 ghost use Rattle.abstract_log.specs.Runs.{IsFinished, IsRun, world_of};
-ghost use Rattle.stage_world.specs.Schedules.{AreTwo};
+ghost use Rattle.abstract_log.specs.Turns.{AreTwo};
 ghost use Rattle.stage_world.specs.Settling.{IsSettling, all_rounds, answering_rounds, errand_turns, exchange_turns, is_answering, is_unfinished, rounds, sent_and_delivered, telling_rounds};
 ghost use Rattle.world.specs.Settled.{AreAnswered, HasLooped, MayBePlayed, Plays};
 ghost use Rattle.world.specs.Taking.{IsTaken};
 
 use crate::exchanges::{Errand, errands};
-use crate::settling_state::{all_of, answering, is_answering, is_due, is_unfinished, rounds};
 use crate::packets::packets_in;
+use crate::settling_state::{all_of, answering, is_answering, is_due, is_unfinished, rounds};
 use crate::stages::Stages;
 use abstract_log::Step;
 use cz_base::{DcId, NoMemory};

@@ -4,13 +4,12 @@ ghost use Rattle.std.specs.Prelude.{◌≡◌, true, false, List, [], ◌∷◌,
 ghost use Rattle.abstract_log.specs.declared.script.Script.{Script as ScriptValue};
 ghost use Rattle.abstract_log.specs.Fits.{FitsScript};
 ghost use Rattle.abstract_log.specs.Runs.{IsRun};
-ghost use Rattle.stage_world.specs.Schedules.{IsStep};
-ghost use Rattle.world.specs.Showing.{IsBuiltStep};
+ghost use Rattle.abstract_log.specs.Turns.{IsBuiltStep, IsStep};
 ghost use Rattle.world.specs.Taking.{lines_told};
 
 use crate::leaving::leave;
-use crate::opening::open_network;
 use crate::network::Network;
+use crate::opening::open_network;
 use abstract_log::{Event, Left, Outcome, Run, Script, StageLine, StageLog, Step, Workload};
 use cz_base::{NoMemory, Seq};
 use std::alloc::Global;

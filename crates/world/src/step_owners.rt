@@ -1,6 +1,6 @@
 //! Where a step is taken.
 ghost use Rattle.std.specs.Prelude.{◌≡◌};
-ghost use Rattle.stage_world.specs.Schedules.{IsStep, place_of_step};
+ghost use Rattle.abstract_log.specs.Turns.{IsStep, place_of_step};
 ghost use Rattle.world.specs.Showing.{uses_link};
 
 use abstract_log::{Step, Workload};

@@ -6,11 +6,11 @@ ghost use Rattle.stage_world.specs.Stages.{Stages as StageWorld};
 ghost use Rattle.stage_world.specs.Schedules.{step_of};
 ghost use Rattle.world.specs.Showing.{HasMoved, MayStep, TellsIdle, uses_link};
 
-use crate::one_datacentre::{has_receiver, receive, send, take};
 use crate::linking::{copy_packet, lose_packet, put_sent, with_change};
+use crate::network::Network;
+use crate::one_datacentre::{has_receiver, receive, send, take};
 use crate::packets::take_out;
 use crate::step_owners::{place_of, uses_link};
-use crate::network::Network;
 use abstract_log::{Outcome, Step, Workload};
 use cz_base::{DcId, NoMemory, Seq};
 use datacentre::TurnDone;

@@ -1,3 +1,4 @@
+-- The script is in its ranges; the rest is computed.
 use Rattle.stage_cases.proofs.Ranges.{handed_in_range}
 use Rattle.stage_cases.proofs.a_new_filter_takes_over.Goals as goal
 

@@ -1,3 +1,4 @@
+-- The script is in its ranges; the rest is computed.
 use Rattle.stage_cases.proofs.Ranges.{cause_in_range}
 use Rattle.stage_cases.proofs.a_record_waits_for_its_cause.Goals as goal
 

@@ -1,3 +1,4 @@
+-- The script is in its ranges; the rest is computed.
 use Rattle.stage_cases.proofs.Ranges.{asked_in_range}
 use Rattle.stage_cases.proofs.a_session_asks_for_what_is_not_there.Goals as goal
 

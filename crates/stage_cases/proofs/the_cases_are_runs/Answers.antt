@@ -1,3 +1,4 @@
+-- Each script is in its ranges, so the law of schedules applies to it.
 use Rattle.stage_cases.specs.Reading.{gap_script, behind_script, collect_script, floor_script, asked_script}
 use Rattle.stage_cases.specs.Linking.{cause_script, repeat_script, lose_script}
 use Rattle.stage_cases.proofs.Ranges.{played, gap_in_range, behind_in_range, collect_in_range, floor_in_range, cause_in_range, repeat_in_range, lose_in_range, asked_in_range}

@@ -1,3 +1,4 @@
+-- The rounds of answering end, by the work that is left to sessions.
 use Rattle.std.proofs.Common.{refl}
 use Rattle.settling_laws.proofs.Loop.{answering_ends_at}
 use Rattle.settling_laws.proofs.laws.answering_ends.Goals as goal

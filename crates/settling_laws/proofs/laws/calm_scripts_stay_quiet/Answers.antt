@@ -1,3 +1,4 @@
+-- No announcement comes by steps that announce nothing, step by step.
 use Rattle.settling_laws.proofs.Scripts.{calm_script}
 use Rattle.settling_laws.proofs.laws.calm_scripts_stay_quiet.Goals as goal
 

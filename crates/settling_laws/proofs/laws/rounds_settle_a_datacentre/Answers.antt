@@ -1,3 +1,4 @@
+-- A local round settles its datacentre, kind by kind of its turns.
 use Rattle.std.proofs.Common.{refl}
 use Rattle.settling_laws.proofs.LocalRound.{settled_by_round}
 use Rattle.settling_laws.proofs.laws.rounds_settle_a_datacentre.Goals as goal

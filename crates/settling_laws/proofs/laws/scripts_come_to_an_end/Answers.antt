@@ -1,3 +1,4 @@
+-- Every calm script comes to its end, by the ends of both loops.
 use Rattle.settling_laws.proofs.Scripts.{script_ends}
 use Rattle.settling_laws.proofs.laws.scripts_come_to_an_end.Goals as goal
 

@@ -1,3 +1,4 @@
+-- Settling ends, since both of its loops do.
 use Rattle.std.proofs.Common.{refl}
 use Rattle.settling_laws.proofs.Settled.{settling_ends_at}
 use Rattle.settling_laws.proofs.laws.settling_ends.Goals as goal

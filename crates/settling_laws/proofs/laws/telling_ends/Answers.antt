@@ -1,3 +1,4 @@
+-- The rounds of telling end, by the records that logs may still get.
 use Rattle.std.proofs.Common.{refl}
 use Rattle.settling_laws.proofs.TellingLoop.{telling_ends_at}
 use Rattle.settling_laws.proofs.laws.telling_ends.Goals as goal

@@ -1,6 +1,5 @@
 use Rattle.std.proofs.Common.{arith}
-use Rattle.stage_world.specs.Schedules.{IsStep}
-use Rattle.world.specs.Showing.{IsBuiltStep}
+use Rattle.abstract_log.specs.Turns.{IsBuiltStep, IsStep}
 use Rattle.test_world.proofs.Taking.{all_more, all_seen}
 use Rattle.test_world.proofs.steps.may_take_all.Goals as goal
 

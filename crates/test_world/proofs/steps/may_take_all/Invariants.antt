@@ -1,7 +1,6 @@
 use Rattle.std.proofs.Common.{take}
 use Rattle.std.specs.List.{All}
-use Rattle.stage_world.specs.Schedules.{IsStep}
-use Rattle.world.specs.Showing.{IsBuiltStep}
+use Rattle.abstract_log.specs.Turns.{IsBuiltStep, IsStep}
 use Rattle.test_world.proofs.steps.may_take_all.Given as goal
 
 abbrev pub invariant-loop-step : goal.invariant-loop-step

@@ -21,8 +21,8 @@ raise-requires c =
 
 pub loop-done-preserved : goal.loop-done-preserved
 loop-done-preserved c = record {
-  moving = move_next c.args.h c.args.t c.args.held.now c.args.reached.now c.args.out.now.items _ _ _ _ c.loop-done.invariant.moving c.in-Some.rec _ _ _ (sym c.in-Some.is ∙ c.remove_first_from.ensures.first) c.remove_first_from.ensures.rest c.raise.ensures c.push_in_room.ensures.items;
-  len = omega (arith, c.push_in_room.ensures.len, c.loop-done.invariant.len);
-  room = omega (arith, c.push_in_room.ensures.capacity, c.loop-done.invariant.room);
+  moving = move_next c.args.h c.args.t c.args.held.now c.args.reached.now c.args.out.now.items _ _ _ _ c.loop-done.invariant.moving c.in-Some.rec _ _ _ (sym c.in-Some.is ∙ c.remove_first_from.ensures.first) c.remove_first_from.ensures.rest c.raise.ensures c.push_reserved.ensures.items;
+  len = omega (arith, c.push_reserved.ensures.len, c.loop-done.invariant.len);
+  room = omega (arith, c.push_reserved.ensures.capacity, c.loop-done.invariant.room);
   width = ap length c.raise.ensures ∙ raised_length c.loop-done.reached c.in-Some.rec.host c.in-Some.rec.toid ∙ c.loop-done.invariant.width;
 }

@@ -17,10 +17,10 @@ pub pass_first-requires-clause-hosts : goal.pass_first-requires-clause-hosts
 pass_first-requires-clause-hosts c = hosts_fit _ _ _ _ c.self.invariant c.raise.ensures
 
 pub invariant_of-self-2 : goal.invariant_of-self-2
-invariant_of-self-2 c = (pass_taken _ _ _ _ _ _ _ _ _ c.self.view_is c.self.invariant c.requires.fits c.requires.new c.requires.free c.due_count-count.ensures.due c.due_count-count.ensures.rest c.raise.ensures c.pass_first.ensures.raised c.pass_first.ensures.kept (c.push_in_room.ensures.items ∙ ap (λ out. out ++ External c.args.rec ∷ []) c.reserve.ensures.items) c.pass_first.ensures.moved).1
+invariant_of-self-2 c = (pass_taken _ _ _ _ _ _ _ _ _ c.self.view_is c.self.invariant c.requires.fits c.requires.new c.requires.free c.due_count-count.ensures.due c.due_count-count.ensures.rest c.raise.ensures c.pass_first.ensures.raised c.pass_first.ensures.kept (c.push_reserved.ensures.items ∙ ap (λ out. out ++ External c.args.rec ∷ []) c.reserve.ensures.items) c.pass_first.ensures.moved).1
 
 pub returns-clause-ok : goal.returns-clause-ok
-returns-clause-ok c = (pass_taken _ _ _ _ _ _ _ _ _ c.self.view_is c.self.invariant c.requires.fits c.requires.new c.requires.free c.due_count-count.ensures.due c.due_count-count.ensures.rest c.raise.ensures c.pass_first.ensures.raised c.pass_first.ensures.kept (c.push_in_room.ensures.items ∙ ap (λ out. out ++ External c.args.rec ∷ []) c.reserve.ensures.items) c.pass_first.ensures.moved).0
+returns-clause-ok c = (pass_taken _ _ _ _ _ _ _ _ _ c.self.view_is c.self.invariant c.requires.fits c.requires.new c.requires.free c.due_count-count.ensures.due c.due_count-count.ensures.rest c.raise.ensures c.pass_first.ensures.raised c.pass_first.ensures.kept (c.push_reserved.ensures.items ∙ ap (λ out. out ++ External c.args.rec ∷ []) c.reserve.ensures.items) c.pass_first.ensures.moved).0
 
 pub returns-clause-sound : goal.returns-clause-sound
-returns-clause-sound c = steady_sound _ (pass_taken _ _ _ _ _ _ _ _ _ c.self.view_is c.self.invariant c.requires.fits c.requires.new c.requires.free c.due_count-count.ensures.due c.due_count-count.ensures.rest c.raise.ensures c.pass_first.ensures.raised c.pass_first.ensures.kept (c.push_in_room.ensures.items ∙ ap (λ out. out ++ External c.args.rec ∷ []) c.reserve.ensures.items) c.pass_first.ensures.moved).1
+returns-clause-sound c = steady_sound _ (pass_taken _ _ _ _ _ _ _ _ _ c.self.view_is c.self.invariant c.requires.fits c.requires.new c.requires.free c.due_count-count.ensures.due c.due_count-count.ensures.rest c.raise.ensures c.pass_first.ensures.raised c.pass_first.ensures.kept (c.push_reserved.ensures.items ∙ ap (λ out. out ++ External c.args.rec ∷ []) c.reserve.ensures.items) c.pass_first.ensures.moved).1

@@ -1,5 +1,5 @@
 use Rattle.std.proofs.Common.{sym, subst}
-use Rattle.stage_world.specs.Schedules.{IsStep}
+use Rattle.abstract_log.specs.Turns.{IsStep}
 use Rattle.world.specs.Taking.{HasTaken, StagesState, lines_told}
 use Rattle.world.proofs.TakingLemmas.{may_take_some, run_written, some_written, taken_written, wrote_if}
 use Rattle.world.proofs.stages.Stages.take.Goals as goal

@@ -1,0 +1,2 @@
+-- What it is that a world takes an event.
+pub mod Taking

@@ -1,6 +1,0 @@
-use Rattle.std.proofs.Common.{All}
-use Rattle.batcher.specs.Batchers.{HasNumber}
-use Rattle.filter_rows.proofs.parcels.batcher_of.Given as goal
-
-abbrev pub invariant-loop-row : goal.invariant-loop-row
-invariant-loop-row l = All HasNumber l.batcher

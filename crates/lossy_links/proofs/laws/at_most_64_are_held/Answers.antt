@@ -1,5 +1,0 @@
-use Rattle.lossy_links.proofs.Carried.{room_kept}
-use Rattle.lossy_links.proofs.laws.at_most_64_are_held.Goals as goal
-
-pub returns : goal.returns
-returns c = room_kept

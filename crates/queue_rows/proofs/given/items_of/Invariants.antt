@@ -1,6 +1,0 @@
-use Rattle.std.proofs.Common.{All}
-use Rattle.token_queue.specs.Items.{FitsItem}
-use Rattle.queue_rows.proofs.given.items_of.Given as goal
-
-abbrev pub invariant-loop-one : goal.invariant-loop-one
-invariant-loop-one l = All (FitsItem 3) l.items

@@ -1,7 +1,0 @@
-use Rattle.std.proofs.Common.{length}
-use Rattle.stage_rows.proofs.SenderRows.{tellable}
-use Rattle.stage_rows.proofs.sender_rows.tells.Goals as goal
-
-pub build-requires-clause-stock : goal.build-requires-clause-stock
-build-requires-clause-stock g c =
-    tellable 1 c.in_ok-sender.sender.dc (length c.aware_of-aware.result.table) c.in_ok-log.log c.aware_of-aware.ensures.dcs c.in_ok-log.ensures

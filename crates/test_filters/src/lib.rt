@@ -1,0 +1,10 @@
+//! Rows of the filters and of the batcher.
+//!
+//! Each file is a table of rows worked by hand and the tests that go through it. The crate has no code of its own and
+//! proves nothing for others.
+#![tactic(auto)]
+
+#[cfg(test)]
+mod filters;
+#[cfg(test)]
+mod parcels;

@@ -1,0 +1,2 @@
+-- What the rows stand on.
+pub mod Small
