@@ -1,68 +1,49 @@
 -- The task of words is the one that what is found among them asks for.
-use Rattle.std.proofs.Common.{◌≡◌, ◌∙◌, ◌<◌, ◌^◌, ◌&&◌, ℕ, Bool, true, false, refl, sym, ap, subst, cond, codes, List, [], ◌∷◌, Option, Some, None, nat_lt, ltb-true}
-use Rattle.std.specs.Prelude.{◌≢◌, unwrap_or}
+use Rattle.std.proofs.Common.{◌≡◌, ◌∙◌, ◌<◌, ◌^◌, ℕ, Bool, true, false, refl, ap, subst, cond, codes, List, [], ◌∷◌, Option, Some, None}
+use Rattle.std.specs.Prelude.{◌≢◌}
 use Rattle.std.specs.Option.{option_map}
 use Rattle.std.specs.Str.{bytes_eq}
-use Rattle.std.specs.Str.Parse.{digits_value}
 use Rattle.std.specs.Fmt.{decimal}
+use Rattle.std.proofs.lemmas.Option.{none-some, same_Some}
 use Rattle.std.proofs.lemmas.Slice.Eq.{bytes_eq-Decides}
-use Rattle.clap.proofs.WalkLemmas.{both}
 use Rattle.command_line.specs.Words.{are_taken, begins_with_hyphen, form_asked, generate_of, replay_of, seed_of, task_from, task_of, text_of}
 use Rattle.command_line.specs.Asked.{IsAskedBy}
 use Rattle.command_line.specs.declared.task.Form.{Form}
 use Rattle.command_line.specs.declared.task.Task.{Task}
 use Rattle.command_line.specs.declared.task.Task.TheVariants.{Replay, Generate}
-use Rattle.command_line.proofs.Seeds.{seed_of_decimal}
+use Rattle.command_line.proofs.Seeds.{seed_is, seed_of_decimal}
 use Rattle.command_line.proofs.Walks.{digits_begin, plain_one, plain_two}
 
 -- ---- from the task to what asks for it
 
-nothing : {X : Type 0} (x : X) → None ≡ Some x → ⊥
-nothing x is = cc
-
-same : {X : Type 0} (x y : X) → Some x ≡ Some y → x ≡ y
-same x y is = ap (λ o. unwrap_or o x) is
-
--- a seed is in its range, and its text is decimal
-pub seed_is : (text : List ℕ) (seed : ℕ) → seed_of text ≡ Some seed → (seed < 2 ^ 64) × (text ≡ decimal seed)
-seed_is text seed is = go (nat_lt (digits_value 10 text) (2 ^ 64) && bytes_eq (decimal (digits_value 10 text)) text) refl is
-  where
-    go : (b : Bool) → (nat_lt (digits_value 10 text) (2 ^ 64) && bytes_eq (decimal (digits_value 10 text)) text) ≡ b
-        → cond b (Some (digits_value 10 text)) None ≡ Some seed → (seed < 2 ^ 64) × (text ≡ decimal seed)
-    go true test found =
-        let tests = both (nat_lt (digits_value 10 text) (2 ^ 64)) (bytes_eq (decimal (digits_value 10 text)) text) test in
-        let written = sym ((bytes_eq-Decides (decimal (digits_value 10 text)) text).0 tests.1) in
-        subst (λ n. (n < 2 ^ 64) × (text ≡ decimal n)) (same (digits_value 10 text) seed found) (ltb-true (digits_value 10 text) (2 ^ 64) tests.0, written)
-    go false test found = absurd (nothing seed found)
-
 replay_asked : (mode : List ℕ) (number form : Option (List ℕ)) (task : Task) → mode ≡ codes "replay" → replay_of number form ≡ Some task → IsAskedBy task (Some mode) number form
-replay_asked mode (Some n) form task named is = absurd (nothing task is)
+replay_asked mode (Some n) form task named is = absurd (none-some task is)
 replay_asked mode None form task named is = go (form_asked form) refl is
   where
     go : (o : Option Form) → form_asked form ≡ o → option_map Replay o ≡ Some task → IsAskedBy task (Some mode) None form
-    go None asked found = absurd (nothing task found)
-    go (Some wanted) asked found = subst (λ t. IsAskedBy t (Some mode) None form) (same (Replay wanted) task found) (ap Some named, refl, asked)
+    go None asked found = absurd (none-some task found)
+    go (Some wanted) asked found = subst (λ t. IsAskedBy t (Some mode) None form) (same_Some (Replay wanted) task found) (ap Some named, refl, asked)
 
 generate_asked : (mode : List ℕ) (number form : Option (List ℕ)) (task : Task) → mode ≡ codes "gen" → generate_of number form ≡ Some task → IsAskedBy task (Some mode) number form
-generate_asked mode None form task named is = absurd (nothing task is)
-generate_asked mode (Some text) (Some f) task named is = absurd (nothing task is)
+generate_asked mode None form task named is = absurd (none-some task is)
+generate_asked mode (Some text) (Some f) task named is = absurd (none-some task is)
 generate_asked mode (Some text) None task named is = go (seed_of text) refl is
   where
     go : (o : Option ℕ) → seed_of text ≡ o → option_map Generate o ≡ Some task → IsAskedBy task (Some mode) (Some text) None
-    go None asked found = absurd (nothing task found)
+    go None asked found = absurd (none-some task found)
     go (Some seed) asked found =
         let told = seed_is text seed asked in
-        subst (λ t. IsAskedBy t (Some mode) (Some text) None) (same (Generate seed) task found) (ap Some named, told.0, ap Some told.1, refl)
+        subst (λ t. IsAskedBy t (Some mode) (Some text) None) (same_Some (Generate seed) task found) (ap Some named, told.0, ap Some told.1, refl)
 
 from_asked : (mode number form : Option (List ℕ)) (task : Task) → task_from mode number form ≡ Some task → IsAskedBy task mode number form
-from_asked None number form task is = absurd (nothing task is)
+from_asked None number form task is = absurd (none-some task is)
 from_asked (Some mode) number form task is = go (bytes_eq mode (codes "replay")) (bytes_eq mode (codes "gen")) refl refl is
   where
     go : (b d : Bool) → bytes_eq mode (codes "replay") ≡ b → bytes_eq mode (codes "gen") ≡ d
         → cond b (replay_of number form) (cond d (generate_of number form) None) ≡ Some task → IsAskedBy task (Some mode) number form
     go true d test other found = replay_asked mode number form task ((bytes_eq-Decides mode (codes "replay")).0 test) found
     go false true test other found = generate_asked mode number form task ((bytes_eq-Decides mode (codes "gen")).0 other) found
-    go false false test other found = absurd (nothing task found)
+    go false false test other found = absurd (none-some task found)
 
 pub task_asked : (words : List (List ℕ)) (task : Task) → task_of words ≡ Some task
     → (are_taken words ≡ true) × IsAskedBy task (text_of (codes "mode") words) (text_of (codes "number") words) (text_of (codes "form") words)
@@ -73,7 +54,7 @@ task_asked words task is = go (are_taken words) refl is
         → cond b (task_from (text_of (codes "mode") words) (text_of (codes "number") words) (text_of (codes "form") words)) None ≡ Some task
         → (are_taken words ≡ true) × IsAskedBy task (text_of (codes "mode") words) (text_of (codes "number") words) (text_of (codes "form") words)
     go true taken found = (taken, from_asked (text_of (codes "mode") words) (text_of (codes "number") words) (text_of (codes "form") words) task found)
-    go false taken found = absurd (nothing task found)
+    go false taken found = absurd (none-some task found)
 
 -- ---- and back
 

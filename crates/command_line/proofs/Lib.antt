@@ -1,3 +1,4 @@
+-- The lemmas of the crate, file by file.
 pub mod Taken
 pub mod Seeds
 pub mod Examples

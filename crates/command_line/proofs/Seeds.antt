@@ -1,10 +1,11 @@
 -- Seeds and their texts.
-use Rattle.std.proofs.Common.{◌≡◌, ◌∙◌, ◌<◌, ◌^◌, ◌&&◌, ℕ, Bool, true, false, zero, suc, refl, sym, ap, cond, arith, inl, inr, List, length, get_or, Some, None, Result, Ok, Err, nat_lt, lt-ltb, ltb-true}
+use Rattle.std.proofs.Common.{◌≡◌, ◌∙◌, ◌<◌, ◌^◌, ◌&&◌, ℕ, Bool, true, false, zero, suc, refl, sym, ap, subst, cond, arith, inl, inr, List, length, get_or, Option, Some, None, Result, Ok, Err, nat_lt, lt-ltb, ltb-true}
 use Rattle.std.specs.Prelude.{◌⊎◌, ◌≢◌}
 use Rattle.std.specs.Str.{bytes_eq}
 use Rattle.std.specs.Str.Parse.{AllDigits, ParsesUnsigned, digits_value}
 use Rattle.std.specs.Fmt.{decimal, digits}
 use Rattle.std.specs.Result.{result_ok}
+use Rattle.std.proofs.lemmas.Option.{none-some, same_Some}
 use Rattle.std.proofs.lemmas.Slice.Eq.{bytes_eq-Decides}
 use Rattle.std.proofs.lemmas.Str.Parse.{IsNumeralModel, parse_plain}
 use Rattle.std.proofs.lemmas.Fmt.{decimal-digits_value, digits_value-decimal, first_decimal, parse-decimal}
@@ -23,17 +24,25 @@ seed_of_decimal text n low is =
     let same : bytes_eq (decimal n) text ≡ true = (bytes_eq-Decides (decimal n) text).1 (sym is) in
     rw (value, small, same) refl
 
--- a text of no such number has no seed
-pub no_seed : (text : List ℕ) → ((n : ℕ) → n < 2 ^ 64 → text ≡ decimal n → ⊥) → seed_of text ≡ None
-no_seed text none = go (nat_lt (digits_value 10 text) (2 ^ 64) && bytes_eq (decimal (digits_value 10 text)) text) refl
+-- a seed is in its range, and its text is decimal
+pub seed_is : (text : List ℕ) (seed : ℕ) → seed_of text ≡ Some seed → (seed < 2 ^ 64) × (text ≡ decimal seed)
+seed_is text seed is = go (nat_lt (digits_value 10 text) (2 ^ 64) && bytes_eq (decimal (digits_value 10 text)) text) refl is
   where
     go : (b : Bool) → (nat_lt (digits_value 10 text) (2 ^ 64) && bytes_eq (decimal (digits_value 10 text)) text) ≡ b
-        → cond b (Some (digits_value 10 text)) None ≡ None
-    go true test =
+        → cond b (Some (digits_value 10 text)) None ≡ Some seed → (seed < 2 ^ 64) × (text ≡ decimal seed)
+    go true test found =
         let tests = both (nat_lt (digits_value 10 text) (2 ^ 64)) (bytes_eq (decimal (digits_value 10 text)) text) test in
-        absurd (none (digits_value 10 text) (ltb-true (digits_value 10 text) (2 ^ 64) tests.0)
-        (sym ((bytes_eq-Decides (decimal (digits_value 10 text)) text).0 tests.1)))
-    go false test = refl
+        let written = sym ((bytes_eq-Decides (decimal (digits_value 10 text)) text).0 tests.1) in
+        subst (λ n. (n < 2 ^ 64) × (text ≡ decimal n)) (same_Some (digits_value 10 text) seed found) (ltb-true (digits_value 10 text) (2 ^ 64) tests.0, written)
+    go false test found = absurd (none-some seed found)
+
+-- a text of no such number has no seed
+pub no_seed : (text : List ℕ) → ((n : ℕ) → n < 2 ^ 64 → text ≡ decimal n → ⊥) → seed_of text ≡ None
+no_seed text none = read (seed_of text) refl
+  where
+    read : (o : Option ℕ) → seed_of text ≡ o → o ≡ None
+    read None is = refl
+    read (Some seed) is = let told = seed_is text seed is in absurd (none seed told.0 told.1)
 
 -- a decimal text begins with no sign, and with 0 only where it is `0`
 first_digit : (n : ℕ) → n < 2 ^ 64 → (get_or (decimal n) 0 0 ≡ 43) ⊎ ((get_or (decimal n) 0 0 ≡ 48) × (1 < length (decimal n))) → ⊥

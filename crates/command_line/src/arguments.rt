@@ -1,3 +1,5 @@
+//! Reading the words: the command finds its arguments among them, and these give the task.
+
 ghost use Rattle.std.specs.Prelude.{◌≡◌, ◌≢◌, ◌⊎◌, ◌<◌, Some, None, true, false, IfOk, IfErr, IsTrue, length, slice_index};
 ghost use Rattle.clap.specs.Words.{app_of, found_of, kind_of, rows_of};
 ghost use Rattle.command_line.specs.Command.{command};
@@ -10,7 +12,9 @@ use clap::{Arg, ArgMatches, Command};
 use cz_base::Word;
 use std::alloc::{AllocError, Global};
 
-/// Reads the words of the command line, without the program's own name.
+/// The task that the words ask for: those of the command line, without the program's own name.
+///
+/// `NotValid` says that they ask for none, `NoMemory` that there was no memory to read them.
 pub fn read_words(alloc: Global, words: &[Word]) -> Result<Task, WordsFault>
     ensures task { IfOk result (λ task. task_of words.now ≡ Some task) }
     ensures refused { IfErr result (λ fault. fault ≡ NotValid → task_of words.now ≡ None) }
@@ -60,6 +64,7 @@ fn read_task(mode: Option<&str>, number: Option<&str>, form: Option<&str>) -> Op
     }
 }
 
+// The task of a replay, which takes no number.
 fn read_replay(number: Option<&str>, form: Option<&str>) -> Option<Task>
     ensures { result ≡ replay_of (text_behind number.entry) (text_behind form.entry) }
 {
@@ -70,6 +75,7 @@ fn read_replay(number: Option<&str>, form: Option<&str>) -> Option<Task>
     Some(Task::Replay { form })
 }
 
+// The task of a generated script, which needs a seed and takes no form.
 fn read_generate(number: Option<&str>, form: Option<&str>) -> Option<Task>
     ensures { result ≡ generate_of (text_behind number.entry) (text_behind form.entry) }
 {

@@ -1,4 +1,5 @@
 //! What the words in use ask for. Each law is a function that does nothing: its contract is the law.
+
 ghost use Rattle.std.specs.Prelude.{◌≡◌, ◌≢◌, ◌<◌, ◌^◌, [], ◌∷◌, ◌++◌, List, ℕ, Some, None, true, false, codes};
 ghost use Rattle.std.specs.Fmt.{decimal};
 ghost use Rattle.command_line.specs.Words.{are_taken, begins_with_hyphen, form_name, task_in_mode, task_of, text_of};

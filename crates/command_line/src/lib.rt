@@ -1,9 +1,19 @@
 //! The words of the command line: from the texts that follow the program's own name to the task that they ask for.
 //!
-//! The words are read as one simple `clap` command with a mode, a number and a form. Contracts see them as a list of
-//! texts. The theorem for the layer above is the contract of `read_words`: it answers exactly the task that
-//! `task_of` gives, and refuses only words that ask for none, want of memory apart. The laws in `laws` show what
-//! `task_of` says of the words that are in use.
+//! **Model.** The words are a list of texts, each the list of its bytes. `clap` reads them as one simple command with
+//! a mode, a number and a form; `specs/Command` is that command, and what it takes and finds are `are_taken` and
+//! `found_in`.
+//!
+//! **Theorem.** The contract of `read_words` is what the program above rests on: it answers exactly the task that
+//! `task_of` gives, and says that the words are not valid only where they ask for none. Want of memory is a fault of
+//! its own. The laws in `laws` show `task_of` in the subject's words: `tasks_are_as_asked` says for all words what asks
+//! for a task, and the others what the words in use ask for.
+//!
+//! **Decided.** One command with a required mode stands for the two subcommands, so that words after `--`, `--help`
+//! and options before the mode need no rule of their own: each of them asks for nothing or for the same task. A seed
+//! is the decimal text of a number of 64 bits, with no sign and no needless zero, so that a task has one text.
+//!
+//! **Tests.** None here: the laws compute on the words themselves. The program's crate runs whole command lines.
 #![tactic(auto)]
 
 mod arguments;

@@ -9,10 +9,11 @@ use Rattle.causal_deps.specs.declared.record.Record.{Record}
 use Rattle.causal_deps.specs.declared.record.Item.{Item}
 use Rattle.causal_deps.specs.declared.record.Item.TheVariants.{Local, External}
 use Rattle.token_queue.specs.Queues.{QueueState, TokenState}
+use Rattle.abstract_log.specs.Answers.{place_at}
 use Rattle.log_gc.specs.Floors.{Floored, pin_of}
 use Rattle.stage_world.specs.Stages.{Session}
 use Rattle.stage_world.specs.StandsFor.{numbers_of}
-use Rattle.stage_world.specs.Turns.{acknowledged, all_acknowledged, at_session, sessions_after}
+use Rattle.stage_world.specs.Turns.{acked, all_acknowledged, at_session, sessions_after}
 use Rattle.stage_turns.specs.Stamping.{drained_of, sessions_stamped}
 use Rattle.datacentre.specs.Seen.{pin_in}
 
@@ -65,10 +66,10 @@ pinned_by P Q (x ∷ xs) n s all has is = at (eqb x.number n) (has x (All-head P
 
 -- the sessions that get their places
 
-pins_acked : (s p : ℕ) (r : Record) (xs : List Session) (n : ℕ) → pin_in (at_session s (acknowledged p r) xs) n ≡ pin_in xs n
-pins_acked s p r xs n = pins_mapped (λ x. cond (eqb x.number s) (acknowledged p r x) x) xs n (λ x. at x (eqb x.number s))
+pins_acked : (s p : ℕ) (r : Record) (xs : List Session) (n : ℕ) → pin_in (at_session s (acked (place_at p r)) xs) n ≡ pin_in xs n
+pins_acked s p r xs n = pins_mapped (λ x. cond (eqb x.number s) (acked (place_at p r) x) x) xs n (λ x. at x (eqb x.number s))
   where
-    at : (x : Session) (b : Bool) → HasItsPin x (cond b (acknowledged p r x) x)
+    at : (x : Session) (b : Bool) → HasItsPin x (cond b (acked (place_at p r) x) x)
     at x true = record { number = refl; pin = refl }
     at x false = record { number = refl; pin = refl }
 

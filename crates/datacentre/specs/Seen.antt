@@ -55,7 +55,7 @@ pub record IsWhole (p : Parts) : Type 0 where
   pub pins : (n : ℕ) → pin_of p.floor n ≡ pin_in p.sessions n
   pub many : length p.floor.pins ≡ SESSIONS
 
--- Stages of datacentre d that stand for some log: that of a world which a run has left.
+-- Stages of datacentre d that stand for some log: that of a lawful world.
 pub record StandsForALog (d : ℕ) (z : Datacentre) : Type 0 where
   pub world : World
   pub lawful : IsLawful world

@@ -36,7 +36,7 @@ use std::marker::Model;
 use toid_filter::Champions;
 
 /// All stages of one datacentre with its sessions and its table. Once a call has answered `NoMemory` it has failed, and so
-/// does each later call that takes memory.
+/// does each later turn.
 #[derive(Drop)]
 pub struct Datacentre {
     parts: Parts,

@@ -3,6 +3,8 @@
 //! The model is the datacentre of the stage world: sessions, batchers, filters, queues with the token beside them,
 //! maintainers, vectors, indexers, table, as plain data. The theorem for the layer above: each turn is its equation there,
 //! with its outcome and its events. So what the stages hold goes on standing for a log.
+//!
+//! Tests: none here; datacentres are run by the tests of `test_world` and of the program.
 #![tactic(auto)]
 
 mod datacentre;

@@ -3,6 +3,7 @@ use Rattle.std.proofs.Common.{◌≡◌, ◌≤◌, List, [], ◌∷◌, length,
 use Rattle.std.proofs.lemmas.List.{length-map}
 use Rattle.std.proofs.lemmas.List.FromFn.{length-range_with_len}
 use Rattle.std.specs.List.{range_with_len}
+use Rattle.cz_base.specs.declared.limits.TheConstants.{DATACENTRES}
 use Rattle.abstract_log.specs.declared.command.Workload.{Workload}
 use Rattle.abstract_log.specs.declared.event.Event.{Event}
 use Rattle.abstract_log.specs.declared.event.Event.TheVariants.{Submit, Append, Receive, Add, Learn, Reply, Collect}
@@ -27,8 +28,8 @@ load_kept : (w : World) (events : List Event) → (after_all w events).workload 
 load_kept w [] = refl
 load_kept w (event ∷ more) = load_kept (after w event) more ∙ same_load w event
 
--- so many parts as datacentres, of which there are 8 at most
-pub few_left : (load : Workload) (events : List Event) (left : List LeftAt) → FitsWorkload load → left ≡ left_of (world_of load events) → length left ≤ 8
+-- so many parts as datacentres, of which there are few enough
+pub few_left : (load : Workload) (events : List Event) (left : List LeftAt) → FitsWorkload load → left ≡ left_of (world_of load events) → length left ≤ DATACENTRES
 few_left load events left fits is =
     let w : World = world_of load events in
     let dcs : w.workload.dcs ≡ load.dcs = ap (λ (l : Workload). l.dcs) (load_kept (start load) events) in

@@ -1,3 +1,4 @@
+-- The lemmas of the crate, file by file.
 pub mod LineLemmas
 pub mod LeftLemmas
 pub mod Whole

@@ -1,11 +1,12 @@
 -- What a summary counts.
-use Rattle.std.proofs.Common.{◌≡◌, ℕ, zero, suc, ◌+◌, ◌<◌, ◌≤◌, cond, eqb, ltb, List, [], ◌∷◌, ◌++◌, length, take, get_or, set, replicate, refl, ap, ap₂, sym, ◌∙◌, subst, inl, inr, arith, add-one, Option, codes, Result, Ok, Err, OnOk}
+use Rattle.std.proofs.Common.{◌≡◌, ℕ, zero, suc, ◌+◌, ◌<◌, ◌≤◌, cond, eqb, ltb, List, [], ◌∷◌, ◌++◌, length, take, get_or, replicate, refl, ap, ap₂, sym, ◌∙◌, subst, inl, inr, arith, add-one, Option, codes, Result, Ok, Err, OnOk}
 use Rattle.std.specs.Fmt.{decimal}
 use Rattle.std.specs.List.{Contains, count_by, sum_by}
 use Rattle.std.proofs.Math.Seq.{take-suc}
 use Rattle.std.proofs.lemmas.Bool.{cases_eq, cond-true, cond-false, cond_both, eq-eqb, ne_eqb, ltb-false}
 use Rattle.std.proofs.lemmas.List.{get_or-set_same, get_or-set_other}
 use Rattle.std.proofs.lemmas.List.Sums.{count_by-le-length, sum_by-cons, sum_by_push}
+use Rattle.cz_base.specs.declared.limits.TheConstants.{COMMANDS}
 use Rattle.abstract_log.specs.declared.command.SessionPlan.{SessionPlan}
 use Rattle.abstract_log.specs.declared.command.Workload.{Workload}
 use Rattle.abstract_log.specs.declared.event.Event.{Event}
@@ -42,9 +43,9 @@ commands_part (y ∷ ys) (suc i) = omega (arith, commands_part ys i)
 -- a count once one session more is counted, which is small
 pub record IsCounted (count : ℕ) (next : ℕ) (more : ℕ) : Type 0 where
   pub sum : count + more ≡ next
-  pub small : next ≤ 16384
+  pub small : next ≤ COMMANDS
 
-pub commands_more : (count : ℕ) (xs all : List SessionPlan) (i : ℕ) (x : SessionPlan) → xs ≡ all → commands_of all ≤ 16384 → count ≡ commands_of (take i xs) → i < length xs → x ≡ get_or xs i x
+pub commands_more : (count : ℕ) (xs all : List SessionPlan) (i : ℕ) (x : SessionPlan) → xs ≡ all → commands_of all ≤ COMMANDS → count ≡ commands_of (take i xs) → i < length xs → x ≡ get_or xs i x
     → IsCounted count (commands_of (take (i + 1) xs)) (length x.commands)
 commands_more count xs all i x same few was within at =
     let next : commands_of (take (i + 1) xs) ≡ commands_of (take i xs) + length x.commands = ap (λ k. commands_of (take k xs)) (add-one i) ∙ commands_next xs i x within at in
@@ -54,7 +55,7 @@ writes_few : (xs : List SessionPlan) → writes_of xs ≤ commands_of xs
 writes_few [] = omega arith
 writes_few (x ∷ xs) = omega (arith, writes_few xs, sum_by-cons writes_in x xs, count_by-le-length is_write x.commands)
 
-pub writes_more : (count : ℕ) (xs all : List SessionPlan) (i : ℕ) (x : SessionPlan) → xs ≡ all → commands_of all ≤ 16384 → count ≡ writes_of (take i xs) → i < length xs → x ≡ get_or xs i x
+pub writes_more : (count : ℕ) (xs all : List SessionPlan) (i : ℕ) (x : SessionPlan) → xs ≡ all → commands_of all ≤ COMMANDS → count ≡ writes_of (take i xs) → i < length xs → x ≡ get_or xs i x
     → IsCounted count (writes_of (take (i + 1) xs)) (writes_in x)
 writes_more count xs all i x same few was within at =
     let more : take (i + 1) xs ≡ take i xs ++ x ∷ [] = rw (add-one, take-suc xs i x within, ← at) refl in

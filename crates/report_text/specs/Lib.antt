@@ -1,3 +1,4 @@
+-- The definitions of the crate, file by file.
 pub mod Numbered
 pub mod Lines
 pub mod Values

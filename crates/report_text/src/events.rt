@@ -1,4 +1,5 @@
 //! The lines of commands, events and replies.
+
 ghost use Rattle.std.specs.Prelude.{◌≡◌, ◌∷◌, [], ◌++◌, codes, OnOk};
 ghost use Rattle.std.specs.List.{flat_map};
 ghost use Rattle.std.specs.Fmt.{decimal};
@@ -15,7 +16,7 @@ use abstract_log::{Answer, Command, Event, Found, ReadAnswer, SessionPlan};
 use causal_deps::{BoxedTable, Place, Table};
 use cz_base::{Body, DcId, Lid, Name, NoMemory, Seq, Toid};
 
-/// The line of each session, and those of its commands.
+/// The line of each session, and those of its commands. It fails only where memory runs out.
 pub fn put_plans(text: &mut Text, plans: &Seq<SessionPlan>) -> Result<(), NoMemory>
     ensures { OnOk result (text.new ≡ text.old ++ lines_text (flat_map plan_lines plans.now)) }
 {
@@ -25,6 +26,7 @@ pub fn put_plans(text: &mut Text, plans: &Seq<SessionPlan>) -> Result<(), NoMemo
     Ok(())
 }
 
+// The line of a session, and those of its commands.
 fn put_plan(text: &mut Text, plan: &SessionPlan) -> Result<(), NoMemory>
     ensures { OnOk result (text.new ≡ text.old ++ lines_text (plan_lines plan.now)) }
 {
@@ -34,6 +36,7 @@ fn put_plan(text: &mut Text, plan: &SessionPlan) -> Result<(), NoMemory>
     put_commands(text, &plan.commands)
 }
 
+// A line for each command.
 fn put_commands(text: &mut Text, commands: &Seq<Command>) -> Result<(), NoMemory>
     ensures { OnOk result (text.new ≡ text.old ++ lines_text (flat_map command_lines commands.now)) }
 {
@@ -43,6 +46,7 @@ fn put_commands(text: &mut Text, commands: &Seq<Command>) -> Result<(), NoMemory
     Ok(())
 }
 
+// The line of a command.
 fn put_command_line(text: &mut Text, command: &Command) -> Result<(), NoMemory>
     ensures { OnOk result (text.new ≡ text.old ++ line_text (command_words command.now)) }
 {
@@ -84,7 +88,7 @@ fn put_command(text: &mut Text, command: &Command) -> Result<(), NoMemory>
     }
 }
 
-/// A line for each event.
+/// A line for each event. It fails only where memory runs out.
 pub fn put_events(text: &mut Text, events: &Seq<Event>) -> Result<(), NoMemory>
     ensures { OnOk result (text.new ≡ text.old ++ lines_text (flat_map event_lines events.now)) }
 {
@@ -94,6 +98,7 @@ pub fn put_events(text: &mut Text, events: &Seq<Event>) -> Result<(), NoMemory>
     Ok(())
 }
 
+// The line of an event.
 fn put_event_line(text: &mut Text, event: &Event) -> Result<(), NoMemory>
     ensures { OnOk result (text.new ≡ text.old ++ line_text (event_words event.now)) }
 {
@@ -135,7 +140,7 @@ fn put_event(text: &mut Text, event: &Event) -> Result<(), NoMemory>
         Event::Learn { dc, row } => {
             text.put(b"learn")?;
             letter_word(text, *dc)?;
-            counts_after(text, row)
+            counts_after(text, &row.get())
         }
         Event::Reply {
             dc,
@@ -148,7 +153,7 @@ fn put_event(text: &mut Text, event: &Event) -> Result<(), NoMemory>
             letter_word(text, *dc)?;
             put_index(text, *session, *index)?;
             text.number(*at)?;
-            put_answer(text, answer)
+            put_answer(text, answer.get())
         }
         Event::Collect { dc, lid } => {
             text.put(b"collect")?;
@@ -175,6 +180,7 @@ fn put_added(
     put_name(text, host, toid)
 }
 
+// What a datacentre heard from another: what that one knows, and the names of the records that came.
 fn put_received(
     text: &mut Text,
     word: &[u8],
@@ -231,6 +237,7 @@ pub fn put_answer(text: &mut Text, answer: &Answer) -> Result<(), NoMemory>
     }
 }
 
+// The words of each value that was found.
 fn put_items(text: &mut Text, items: &Seq<Found>) -> Result<(), NoMemory>
     ensures { OnOk result (text.new ≡ text.old ++ spaced (flat_map found_words items.now)) }
 {
@@ -240,6 +247,7 @@ fn put_items(text: &mut Text, items: &Seq<Found>) -> Result<(), NoMemory>
     Ok(())
 }
 
+// The words of one.
 fn put_found(text: &mut Text, found: &Found) -> Result<(), NoMemory>
     ensures { OnOk result (text.new ≡ text.old ++ spaced (found_words found.now)) }
 {
@@ -253,6 +261,7 @@ fn put_found(text: &mut Text, found: &Found) -> Result<(), NoMemory>
     }
 }
 
+// The words of what stands at a position.
 fn put_read(text: &mut Text, shown: &ReadAnswer) -> Result<(), NoMemory>
     ensures { OnOk result (text.new ≡ text.old ++ spaced (read_words shown.now)) }
 {
@@ -273,7 +282,7 @@ fn put_read(text: &mut Text, shown: &ReadAnswer) -> Result<(), NoMemory>
     }
 }
 
-/// A body and tags.
+/// A body and tags, with a space before each.
 pub fn put_shown(text: &mut Text, body: &Body, tags: &Seq<Name>) -> Result<(), NoMemory>
     ensures { OnOk result (text.new ≡ text.old ++ spaced (shown_words body.now tags.now)) }
 {
@@ -281,7 +290,7 @@ pub fn put_shown(text: &mut Text, body: &Body, tags: &Seq<Name>) -> Result<(), N
     put_keys(text, tags)
 }
 
-/// The replies of a session.
+/// A line for each reply of a session, in the order of its commands.
 pub fn put_replies(text: &mut Text, session: u32, events: &Seq<Event>) -> Result<(), NoMemory>
     ensures { OnOk result (text.new ≡ text.old ++ lines_text (replies_of events.now session)) }
 {
@@ -309,11 +318,12 @@ fn put_reply(text: &mut Text, session: u32, event: &Event) -> Result<(), NoMemor
             at,
             answer,
             ..
-        } if *of == session => put_shown_at(text, session, *index, *at, answer),
+        } if *of == session => put_shown_at(text, session, *index, *at, answer.get()),
         _ => Ok(()),
     }
 }
 
+// The line of a write: where its record stands.
 fn put_written(
     text: &mut Text,
     dc: DcId,
@@ -338,6 +348,7 @@ fn put_written(
     text.end_line()
 }
 
+// The line of another command: what it was shown, and at which position.
 fn put_shown_at(
     text: &mut Text,
     session: u32,

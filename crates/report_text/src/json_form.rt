@@ -1,4 +1,5 @@
 //! The logs and the replies of a run as JSON, in one line.
+
 ghost use Rattle.std.specs.Prelude.{◌≡◌, false, ◌∷◌, [], ◌++◌, map, codes, IfOk, OnOk};
 ghost use Rattle.std.specs.Fmt.{decimal};
 ghost use Rattle.abstract_log.specs.declared.answer.Answer.TheVariants.{Written};
@@ -20,7 +21,7 @@ use cz_base::{DcId, Lid, Name, NoMemory, Seq, Toid};
 use serde_json::{Map, Value, json, put};
 use std::alloc::Global;
 
-/// The logs and the replies as JSON.
+/// The logs and the replies as one JSON object on a line of its own. It fails only where memory runs out.
 pub fn json(alloc: Global, run: &Run, left: &Left) -> Result<Vec<u8>, NoMemory>
     requires limits { FitsLimits run.now.workload }
     requires left { left.now ≡ left_of (world_of run.now.workload run.now.events) }
@@ -39,6 +40,7 @@ fn compact(alloc: Global, value: &Value) -> Result<Vec<u8>, NoMemory>
     Ok(value.to_string(alloc)?.into_bytes())
 }
 
+// The object of the whole.
 fn whole_value(alloc: Global, run: &Run, left: &Left) -> Result<Value, NoMemory>
     requires limits { FitsLimits run.now.workload }
     requires left { left.now ≡ left_of (world_of run.now.workload run.now.events) }
@@ -56,16 +58,18 @@ fn text_value(alloc: Global, bytes: &[u8]) -> Result<Value, NoMemory>
     Ok(Value::String(String::from_utf8_lossy(alloc, bytes)?))
 }
 
+// The letter of a datacentre.
 fn letter_value(alloc: Global, dc: DcId) -> Result<Value, NoMemory>
     ensures { IfOk result (λ value. view value ≡ text_data (letter dc)) }
 {
     text_value(alloc, &[b'A' + dc.number() as u8])
 }
 
+// A number for each datacentre.
 fn counts_value(alloc: Global, counts: &Counts) -> Result<Value, NoMemory>
     ensures { IfOk result (λ value. view value ≡ list_data (map number_data counts.now)) }
 {
-    let mut items = Vec::new(alloc);
+    let mut items = Vec::with_capacity(alloc, counts.dcs() as usize)?;
     for number in 0..counts.dcs() {
         if let Some(dc) = DcId::new(number) {
             items.push(Value::from(counts.get(dc)))?;
@@ -74,16 +78,18 @@ fn counts_value(alloc: Global, counts: &Counts) -> Result<Value, NoMemory>
     Ok(Value::Array(items))
 }
 
+// The tags of a record, in their order.
 fn tags_value(alloc: Global, tags: &Seq<Name>) -> Result<Value, NoMemory>
     ensures { IfOk result (λ value. view value ≡ list_data (map text_data tags.now)) }
 {
-    let mut items = Vec::new(alloc);
+    let mut items = Vec::with_capacity(alloc, tags.len())?;
     for tag in tags.as_slice() {
         items.push(text_value(alloc, tag.as_bytes())?)?;
     }
     Ok(Value::Array(items))
 }
 
+// A position with its record.
 #[tactic(auto, using(crate::proofs::JsonLemmas::record_is))]
 fn record_value(alloc: Global, lid: Lid, rec: &Record) -> Result<Value, NoMemory>
     ensures { IfOk result (λ value. view value ≡ record_data lid rec.now) }
@@ -131,6 +137,7 @@ fn put_writer(alloc: Global, rec: &Record, members: &mut Map<String, Value>) -> 
     Ok(())
 }
 
+// A position of which the name alone is left.
 fn gone_value(alloc: Global, lid: Lid, host: DcId, toid: Toid) -> Result<Value, NoMemory>
     ensures { IfOk result (λ value. view value ≡ gone_data lid host toid) }
 {
@@ -138,6 +145,7 @@ fn gone_value(alloc: Global, lid: Lid, host: DcId, toid: Toid) -> Result<Value, 
     Ok(json!(in alloc; {"gone": true, "host": host, "lid": lid, "toid": toid})?)
 }
 
+// What stands at a position.
 fn row_value(alloc: Global, lid: Lid, row: &Row) -> Result<Value, NoMemory>
     ensures { IfOk result (λ value. view value ≡ row_data lid row.now) }
 {
@@ -147,27 +155,30 @@ fn row_value(alloc: Global, lid: Lid, row: &Row) -> Result<Value, NoMemory>
     }
 }
 
+// The log of a datacentre.
 #[tactic(auto, using(crate::proofs::JsonLemmas::row_more, crate::proofs::JsonLemmas::array_is))]
 fn log_value(alloc: Global, at: &LeftAt) -> Result<Value, NoMemory>
     ensures { IfOk result (λ value. view value ≡ log_data at.now) }
 {
-    let mut items = Vec::new(alloc);
+    let mut items = Vec::with_capacity(alloc, at.rows.len())?;
     for (place, row) in at.rows.as_slice().iter().enumerate() {
         items.push(row_value(alloc, place as u64 + 1, row)?)?;
     }
     Ok(Value::Array(items))
 }
 
+// The logs of all.
 fn logs_value(alloc: Global, left: &Left) -> Result<Value, NoMemory>
     ensures { IfOk result (λ value. view value ≡ logs_data left.now) }
 {
-    let mut items = Vec::new(alloc);
+    let mut items = Vec::with_capacity(alloc, left.len())?;
     for at in left.as_slice() {
         items.push(log_value(alloc, at)?)?;
     }
     Ok(Value::Array(items))
 }
 
+// The replies of all sessions, one session after the other.
 fn replies_value(alloc: Global, sessions: u32, events: &Seq<Event>) -> Result<Value, NoMemory>
     ensures { IfOk result (λ value. view value ≡ replies_data events.now sessions) }
 {
@@ -223,11 +234,12 @@ fn push_reply(
             at,
             answer,
             ..
-        } if *of == session => push_shown(alloc, session, *index, *at, answer, items),
+        } if *of == session => push_shown(alloc, session, *index, *at, answer.get(), items),
         _ => Ok(()),
     }
 }
 
+// The reply to a write: where its record stands.
 fn push_written(
     alloc: Global,
     session: u32,
@@ -244,6 +256,7 @@ fn push_written(
     Ok(())
 }
 
+// The reply to another command: what it was shown, and at which position.
 fn push_shown(
     alloc: Global,
     session: u32,

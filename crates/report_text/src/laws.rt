@@ -1,4 +1,5 @@
 //! What holds of the reports of every run. The law is the contract of a function that does nothing.
+
 ghost use Rattle.std.specs.Prelude.{◌≡◌, ℕ, List};
 ghost use Rattle.abstract_log.specs.declared.command.Workload.{Workload};
 ghost use Rattle.abstract_log.specs.declared.event.Event.{Event};

@@ -1,6 +1,8 @@
 //! The reports, from their parts.
+
 ghost use Rattle.std.specs.Prelude.{◌≡◌, ◌<◌, ◌≤◌, ◌∷◌, [], ◌++◌, length, codes, IfOk, OnOk};
 ghost use Rattle.std.specs.Option.{option_copied};
+ghost use Rattle.cz_base.specs.declared.limits.TheConstants.{DATACENTRES};
 ghost use Rattle.abstract_log.specs.Fits.{FitsLimits};
 ghost use Rattle.abstract_log.specs.Left.{left_of};
 ghost use Rattle.abstract_log.specs.Runs.{world_of};
@@ -19,7 +21,7 @@ use cz_base::{DcId, Lid, NoMemory, Seq, Toid};
 use std::alloc::Global;
 
 /// The whole report of a run: what was asked, the turns of its stages where it was made by stages, what
-/// happened, each log and table, and the replies.
+/// happened, each log and table, and the replies. It fails only where memory runs out.
 pub fn full(
     alloc: Global,
     run: &Run,
@@ -41,7 +43,8 @@ pub fn full(
     Ok(text.into_bytes())
 }
 
-/// The logs and the replies of a run alone. The tables of what it leaves are not told.
+/// The logs and the replies of a run alone. The tables of what it leaves are not told. It fails only where memory
+/// runs out.
 pub fn logs(alloc: Global, run: &Run, left: &Left) -> Result<Vec<u8>, NoMemory>
     requires limits { FitsLimits run.now.workload }
     requires left { left.now ≡ left_of (world_of run.now.workload run.now.events) }
@@ -54,6 +57,7 @@ pub fn logs(alloc: Global, run: &Run, left: &Left) -> Result<Vec<u8>, NoMemory>
     Ok(text.into_bytes())
 }
 
+// The first lines: the form of the report, and how many datacentres there are.
 fn put_first(text: &mut Text, dcs: u32) -> Result<(), NoMemory>
     ensures { OnOk result (text.new ≡ text.old ++ lines_text (first_lines dcs)) }
 {
@@ -70,6 +74,7 @@ pub fn put_fact(text: &mut Text, word: &[u8], n: u64) -> Result<(), NoMemory>
     text.end_line()
 }
 
+// What was asked.
 fn put_workload(text: &mut Text, load: &Workload) -> Result<(), NoMemory>
     ensures { OnOk result (text.new ≡ text.old ++ lines_text (workload_lines load.now)) }
 {
@@ -90,6 +95,7 @@ fn put_turns(text: &mut Text, stages: Option<&StageLog>) -> Result<(), NoMemory>
     put_stages(text, stages, true)
 }
 
+// What happened.
 fn put_trace(text: &mut Text, events: &Seq<Event>) -> Result<(), NoMemory>
     ensures { OnOk result (text.new ≡ text.old ++ lines_text (trace_lines events.now)) }
 {
@@ -99,7 +105,7 @@ fn put_trace(text: &mut Text, events: &Seq<Event>) -> Result<(), NoMemory>
 
 // The log and the table of each datacentre.
 fn put_datacentres(text: &mut Text, left: &Left) -> Result<(), NoMemory>
-    requires { length left.now ≤ 8 }
+    requires { length left.now ≤ DATACENTRES }
     ensures { OnOk result (text.new ≡ text.old ++ lines_text (datacentres_lines left.now)) }
 {
     text.put(b"logs\n")?;
@@ -109,16 +115,18 @@ fn put_datacentres(text: &mut Text, left: &Left) -> Result<(), NoMemory>
     Ok(())
 }
 
+// The log and the table of one.
 fn put_datacentre(text: &mut Text, dc: u32, at: &LeftAt) -> Result<(), NoMemory>
-    requires { dc < 8 }
+    requires { dc < DATACENTRES }
     ensures { OnOk result (text.new ≡ text.old ++ lines_text (datacentre_lines dc at.now)) }
 {
     put_log(text, dc, &at.rows)?;
     put_table_line(text, dc, &at.table)
 }
 
+// The line of a table.
 fn put_table_line(text: &mut Text, dc: u32, table: &Table) -> Result<(), NoMemory>
-    requires { dc < 8 }
+    requires { dc < DATACENTRES }
     ensures { OnOk result (text.new ≡ text.old ++ lines_text (table_lines dc table.now)) }
 {
     text.put(b"table")?;
@@ -129,7 +137,7 @@ fn put_table_line(text: &mut Text, dc: u32, table: &Table) -> Result<(), NoMemor
 
 // The log of each datacentre.
 fn put_logs(text: &mut Text, left: &Left) -> Result<(), NoMemory>
-    requires { length left.now ≤ 8 }
+    requires { length left.now ≤ DATACENTRES }
     ensures { OnOk result (text.new ≡ text.old ++ lines_text (all_logs_lines left.now)) }
 {
     for (number, at) in left.as_slice().iter().enumerate() {
@@ -138,8 +146,9 @@ fn put_logs(text: &mut Text, left: &Left) -> Result<(), NoMemory>
     Ok(())
 }
 
+// The log of one: its line, and one for each position.
 fn put_log(text: &mut Text, dc: u32, rows: &Seq<Row>) -> Result<(), NoMemory>
-    requires { dc < 8 }
+    requires { dc < DATACENTRES }
     ensures { OnOk result (text.new ≡ text.old ++ lines_text (log_lines dc rows.now)) }
 {
     text.put(b"log")?;
@@ -149,6 +158,7 @@ fn put_log(text: &mut Text, dc: u32, rows: &Seq<Row>) -> Result<(), NoMemory>
     put_positions(text, rows)
 }
 
+// A line for each position.
 fn put_positions(text: &mut Text, rows: &Seq<Row>) -> Result<(), NoMemory>
     ensures { OnOk result (text.new ≡ text.old ++ lines_text (flat_map_from position_lines 1 rows.now)) }
 {
@@ -158,6 +168,7 @@ fn put_positions(text: &mut Text, rows: &Seq<Row>) -> Result<(), NoMemory>
     Ok(())
 }
 
+// The line of what stands at a position.
 fn put_position(text: &mut Text, lid: Lid, row: &Row) -> Result<(), NoMemory>
     ensures { OnOk result (text.new ≡ text.old ++ lines_text (position_lines lid row.now)) }
 {
@@ -167,6 +178,7 @@ fn put_position(text: &mut Text, lid: Lid, row: &Row) -> Result<(), NoMemory>
     }
 }
 
+// The line of a record that was collected: its name.
 fn put_gone(text: &mut Text, lid: Lid, host: DcId, toid: Toid) -> Result<(), NoMemory>
     ensures { OnOk result (text.new ≡ text.old ++ line_text (gone_words lid host toid)) }
 {
@@ -175,6 +187,7 @@ fn put_gone(text: &mut Text, lid: Lid, host: DcId, toid: Toid) -> Result<(), NoM
     text.put(b" gone\n")
 }
 
+// The line of a record.
 fn put_record(text: &mut Text, lid: Lid, rec: &Record) -> Result<(), NoMemory>
     ensures { OnOk result (text.new ≡ text.old ++ line_text (record_words lid rec.now)) }
 {
@@ -184,6 +197,7 @@ fn put_record(text: &mut Text, lid: Lid, rec: &Record) -> Result<(), NoMemory>
     text.end_line()
 }
 
+// Who wrote a record: its name, its kind, and the command.
 fn put_writer(text: &mut Text, rec: &Record) -> Result<(), NoMemory>
     ensures { OnOk result (text.new ≡ text.old ++ spaced (writer_words rec.now)) }
 {
@@ -193,6 +207,7 @@ fn put_writer(text: &mut Text, rec: &Record) -> Result<(), NoMemory>
     text.number(u64::from(rec.index))
 }
 
+// What it depends on, and what it carries.
 fn put_content(text: &mut Text, rec: &Record) -> Result<(), NoMemory>
     ensures { OnOk result (text.new ≡ text.old ++ spaced (content_words rec.now)) }
 {

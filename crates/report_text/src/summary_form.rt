@@ -1,6 +1,8 @@
 //! The summary of a run.
+
 ghost use Rattle.std.specs.Prelude.{◌≡◌, ◌<◌, ◌≤◌, ◌++◌, length, codes, sum_by, count_by, IfOk, OnOk};
 ghost use Rattle.std.specs.Option.{option_copied};
+ghost use Rattle.cz_base.specs.declared.limits.TheConstants.{COMMANDS, DATACENTRES};
 ghost use Rattle.abstract_log.specs.Commands.{is_write};
 ghost use Rattle.abstract_log.specs.Fits.{FitsLimits, commands_of};
 ghost use Rattle.abstract_log.specs.Runs.{IsRun, world_of};
@@ -16,6 +18,7 @@ use cz_base::{NoMemory, Seq};
 use std::alloc::Global;
 
 /// What was asked and what happened, as numbers; also how many turns the stages took, where they made the run.
+/// It fails only where memory runs out.
 pub fn summary(alloc: Global, run: &Run, stages: Option<&StageLog>) -> Result<Vec<u8>, NoMemory>
     requires run { IsRun run.now.workload run.now.events }
     requires limits { FitsLimits run.now.workload }
@@ -30,6 +33,7 @@ pub fn summary(alloc: Global, run: &Run, stages: Option<&StageLog>) -> Result<Ve
     Ok(text.into_bytes())
 }
 
+// How much was asked.
 fn put_asked(text: &mut Text, load: &Workload) -> Result<(), NoMemory>
     requires { FitsLimits load.now }
     ensures { OnOk result (text.new ≡ text.old ++ lines_text (asked_lines load.now)) }
@@ -42,7 +46,7 @@ fn put_asked(text: &mut Text, load: &Workload) -> Result<(), NoMemory>
 
 // How many commands there are.
 fn commands_of(plans: &Seq<SessionPlan>) -> u64
-    requires { commands_of plans.now ≤ 16384 }
+    requires { commands_of plans.now ≤ COMMANDS }
     ensures { result ≡ commands_of plans.now }
 {
     let mut count = 0;
@@ -54,7 +58,7 @@ fn commands_of(plans: &Seq<SessionPlan>) -> u64
 
 // How many of them write a record.
 fn writes_of(plans: &Seq<SessionPlan>) -> u64
-    requires { commands_of plans.now ≤ 16384 }
+    requires { commands_of plans.now ≤ COMMANDS }
     ensures { result ≡ writes_of plans.now }
 {
     let mut count = 0;
@@ -64,25 +68,14 @@ fn writes_of(plans: &Seq<SessionPlan>) -> u64
     count
 }
 
+// How many of these write a record.
 fn writes_in(commands: &[Command]) -> usize
     ensures { result ≡ count_by is_write commands.now }
 {
-    commands.iter().filter(|command| is_write(command)).count()
+    commands.iter().filter(|command| command.is_write()).count()
 }
 
-fn is_write(command: &Command) -> bool
-    ensures { result ≡ is_write command.now }
-{
-    match command {
-        Command::Append { .. } => true,
-        Command::Put { .. } => true,
-        Command::Get { .. } => false,
-        Command::Tx { .. } => false,
-        Command::Read { .. } => false,
-        Command::Last { .. } => false,
-    }
-}
-
+// How many turns the stages took, where they made the run.
 fn put_turn_count(text: &mut Text, stages: Option<&StageLog>) -> Result<(), NoMemory>
     ensures { OnOk result (text.new ≡ text.old ++ lines_text (turns_lines (option_copied stages.entry))) }
 {
@@ -94,7 +87,7 @@ fn put_turn_count(text: &mut Text, stages: Option<&StageLog>) -> Result<(), NoMe
 
 // How many positions each datacentre has collected.
 fn put_collected(text: &mut Text, dcs: u32, events: &Seq<Event>) -> Result<(), NoMemory>
-    requires { dcs ≤ 8 }
+    requires { dcs ≤ DATACENTRES }
     ensures { OnOk result (text.new ≡ text.old ++ lines_text (below (collected_lines events.now) dcs)) }
 {
     for number in 0..dcs {
@@ -103,8 +96,9 @@ fn put_collected(text: &mut Text, dcs: u32, events: &Seq<Event>) -> Result<(), N
     Ok(())
 }
 
+// How many one has collected.
 fn put_collected_at(text: &mut Text, dc: u32, events: &Seq<Event>) -> Result<(), NoMemory>
-    requires { dc < 8 }
+    requires { dc < DATACENTRES }
     ensures { OnOk result (text.new ≡ text.old ++ lines_text (collected_lines events.now dc)) }
 {
     text.put(b"gone")?;
@@ -113,12 +107,14 @@ fn put_collected_at(text: &mut Text, dc: u32, events: &Seq<Event>) -> Result<(),
     text.end_line()
 }
 
+// How many events collect a position there.
 fn collected_at(events: &[Event], dc: u32) -> usize
     ensures { result ≡ count_by (collects_at dc) events.now }
 {
     events.iter().filter(|event| collects_at(event, dc)).count()
 }
 
+// Whether an event collects a position at this datacentre.
 fn collects_at(event: &Event, dc: u32) -> bool
     ensures { result ≡ collects_at dc event.now }
 {

@@ -1,3 +1,5 @@
+//! A text in the making.
+
 ghost use Rattle.std.specs.Prelude.{◌≡◌, [], ◌++◌, OnOk};
 ghost use Rattle.std.specs.Fmt.{decimal};
 ghost use Rattle.report_text.specs.Lines.{line_feed, spaced, with_space};
@@ -7,7 +9,7 @@ use cz_base::NoMemory;
 use std::alloc::Global;
 use std::marker::Model;
 
-/// A text in the making, which contracts see as its bytes.
+/// A text in the making, which contracts see as its bytes. Each call fails only where memory runs out.
 #[derive(Drop)]
 pub struct Text {
     alloc: Global,
@@ -23,6 +25,7 @@ impl Model for Text {
 }
 
 impl Text {
+    /// An empty text. It takes no memory until something is put.
     pub fn new(alloc: Global) -> Self
         ensures { result ≡ [] }
     {
@@ -32,6 +35,7 @@ impl Text {
         }
     }
 
+    /// Its bytes.
     pub fn as_bytes(&self) -> &[u8]
         ensures { result.now ≡ self.now }
     {
@@ -46,6 +50,7 @@ impl Text {
         bytes
     }
 
+    /// Some bytes go last.
     pub fn put(&mut self, piece: &[u8]) -> Result<(), NoMemory>
         ensures { OnOk result (self.new ≡ self.old ++ piece.now) }
     {
@@ -85,6 +90,7 @@ impl Text {
         self.number(n)
     }
 
+    /// A line feed goes last.
     pub fn end_line(&mut self) -> Result<(), NoMemory>
         ensures { OnOk result (self.new ≡ self.old ++ line_feed) }
     {

@@ -1,4 +1,5 @@
 //! The lines of stage turns.
+
 ghost use Rattle.std.specs.Prelude.{◌≡◌, ◌∷◌, [], ◌++◌, OnOk};
 ghost use Rattle.abstract_log.specs.declared.script.Outcome.TheVariants.{Behind, Below, EpochAdded, Key, LateAt, Unacknowledged, Waiting};
 ghost use Rattle.report_text.specs.Lines.{line_text, lines_text, spaced, with_space};
@@ -14,7 +15,8 @@ use crate::values::{
 use abstract_log::{FlushItem, ItemName, Outcome, StageLine, StageLog, Step, Way};
 use cz_base::{DcId, Lid, NoMemory, Seq};
 
-/// The turns of settling, or those of the script's steps.
+/// A line for each turn of settling, or for each of the script's steps, as is asked. It fails only where memory runs
+/// out.
 pub fn put_stages(text: &mut Text, stages: &StageLog, settling: bool) -> Result<(), NoMemory>
     ensures { OnOk result (text.new ≡ text.old ++ lines_text (flat_map (stage_lines settling) stages.now)) }
 {
@@ -24,6 +26,7 @@ pub fn put_stages(text: &mut Text, stages: &StageLog, settling: bool) -> Result<
     Ok(())
 }
 
+// The line of a turn, where it is one of those.
 fn put_stage_if(text: &mut Text, line: &StageLine, settling: bool) -> Result<(), NoMemory>
     ensures { OnOk result (text.new ≡ text.old ++ lines_text (stage_lines settling line.now)) }
 {
@@ -33,6 +36,7 @@ fn put_stage_if(text: &mut Text, line: &StageLine, settling: bool) -> Result<(),
     Ok(())
 }
 
+// The line of a turn: its step line, an arrow, and what it answered.
 fn put_stage(text: &mut Text, line: &StageLine) -> Result<(), NoMemory>
     ensures { OnOk result (text.new ≡ text.old ++ line_text (stage_words line.now)) }
 {
@@ -43,6 +47,7 @@ fn put_stage(text: &mut Text, line: &StageLine) -> Result<(), NoMemory>
     text.end_line()
 }
 
+// The first word of a step line.
 fn keyword(step: &Step) -> &'static [u8]
     ensures { result.now ≡ step_keyword step.now }
 {
@@ -72,6 +77,7 @@ fn keyword(step: &Step) -> &'static [u8]
     }
 }
 
+// The words behind it: datacentres by letter, members and packets by number.
 fn put_arguments(text: &mut Text, step: &Step) -> Result<(), NoMemory>
     ensures { OnOk result (text.new ≡ text.old ++ spaced (step_arguments step.now)) }
 {
@@ -101,6 +107,7 @@ fn put_arguments(text: &mut Text, step: &Step) -> Result<(), NoMemory>
     }
 }
 
+// A datacentre and a number.
 fn put_position(text: &mut Text, d: DcId, p: Lid) -> Result<(), NoMemory>
     ensures { OnOk result (text.new ≡ text.old ++ spaced (letter d ∷ decimal p ∷ [])) }
 {
@@ -108,12 +115,14 @@ fn put_position(text: &mut Text, d: DcId, p: Lid) -> Result<(), NoMemory>
     text.number(p)
 }
 
+// A datacentre and a member.
 fn put_member(text: &mut Text, d: DcId, member: u32) -> Result<(), NoMemory>
     ensures { OnOk result (text.new ≡ text.old ++ spaced (letter d ∷ decimal member ∷ [])) }
 {
     put_position(text, d, u64::from(member))
 }
 
+// A datacentre and two members.
 fn put_two(text: &mut Text, d: DcId, member: u32, other: u32) -> Result<(), NoMemory>
     ensures { OnOk result (text.new ≡ text.old ++ spaced (letter d ∷ decimal member ∷ decimal other ∷ [])) }
 {
@@ -121,6 +130,7 @@ fn put_two(text: &mut Text, d: DcId, member: u32, other: u32) -> Result<(), NoMe
     text.number(u64::from(other))
 }
 
+// A datacentre, a sender, and the datacentre that it sends to.
 fn put_sender(text: &mut Text, d: DcId, sender: u32, e: DcId) -> Result<(), NoMemory>
     ensures { OnOk result (text.new ≡ text.old ++ spaced (letter d ∷ decimal sender ∷ letter e ∷ [])) }
 {
@@ -137,6 +147,7 @@ fn put_packet(text: &mut Text, d: DcId, e: DcId, k: u64) -> Result<(), NoMemory>
     text.number(k)
 }
 
+// Two datacentres, a packet and a receiver.
 fn put_delivery(text: &mut Text, d: DcId, e: DcId, k: u32, r: u32) -> Result<(), NoMemory>
     ensures { OnOk result (text.new ≡ text.old ++ spaced (letter d ∷ letter e ∷ decimal k ∷ decimal r ∷ [])) }
 {
@@ -144,6 +155,7 @@ fn put_delivery(text: &mut Text, d: DcId, e: DcId, k: u32, r: u32) -> Result<(),
     text.number(u64::from(r))
 }
 
+// What a turn answered.
 fn put_outcome(text: &mut Text, outcome: &Outcome) -> Result<(), NoMemory>
     ensures { OnOk result (text.new ≡ text.old ++ spaced (outcome_words outcome.now)) }
 {
@@ -169,7 +181,7 @@ fn put_outcome(text: &mut Text, outcome: &Outcome) -> Result<(), NoMemory>
         Outcome::Placed { lids } => put_lids(text, lids),
         Outcome::Head { at } => text.labelled(b"head", *at),
         Outcome::Covered { at } => text.labelled(b"covered", *at),
-        Outcome::Learnt { row } => counts_after(text, row),
+        Outcome::Learnt { row } => counts_after(text, &row.get()),
         Outcome::Sent { names, link, lost } => {
             put_names(text, names)?;
             put_link(text, *link, *lost)
@@ -194,12 +206,14 @@ fn put_outcome(text: &mut Text, outcome: &Outcome) -> Result<(), NoMemory>
     }
 }
 
+// The command is a write that has no place yet.
 fn put_unacknowledged(text: &mut Text, k: u32) -> Result<(), NoMemory>
     ensures { OnOk result (text.new ≡ text.old ++ spaced (outcome_words (Unacknowledged k))) }
 {
     text.labelled(b"unacknowledged", u64::from(k))
 }
 
+// The head is below what the session has seen.
 fn put_waiting(text: &mut Text, k: u32, floor: Lid, head: Lid) -> Result<(), NoMemory>
     ensures { OnOk result (text.new ≡ text.old ++ spaced (outcome_words (Waiting k floor head))) }
 {
@@ -208,6 +222,7 @@ fn put_waiting(text: &mut Text, k: u32, floor: Lid, head: Lid) -> Result<(), NoM
     text.labelled(b"head", head)
 }
 
+// The head is below the floor.
 fn put_below(text: &mut Text, k: u32, floor: Lid) -> Result<(), NoMemory>
     ensures { OnOk result (text.new ≡ text.old ++ spaced (outcome_words (Below k floor))) }
 {
@@ -215,6 +230,7 @@ fn put_below(text: &mut Text, k: u32, floor: Lid) -> Result<(), NoMemory>
     text.labelled(b"floor", floor)
 }
 
+// The indexer does not reach so far.
 fn put_behind(text: &mut Text, k: u32, covered: Lid) -> Result<(), NoMemory>
     ensures { OnOk result (text.new ≡ text.old ++ spaced (outcome_words (Behind k covered))) }
 {
@@ -222,6 +238,7 @@ fn put_behind(text: &mut Text, k: u32, covered: Lid) -> Result<(), NoMemory>
     text.labelled(b"covered", covered)
 }
 
+// So many keys are answered.
 fn put_key(text: &mut Text, k: u32, done: u32, of: u32, at: Lid) -> Result<(), NoMemory>
     ensures { OnOk result (text.new ≡ text.old ++ spaced (outcome_words (Key k done of at))) }
 {
@@ -231,6 +248,7 @@ fn put_key(text: &mut Text, k: u32, done: u32, of: u32, at: Lid) -> Result<(), N
     text.labelled(b"at", at)
 }
 
+// A filter has passed a later record.
 fn put_late(text: &mut Text, filter: u32, passed: Lid) -> Result<(), NoMemory>
     ensures { OnOk result (text.new ≡ text.old ++ spaced (outcome_words (LateAt filter passed))) }
 {
@@ -238,6 +256,7 @@ fn put_late(text: &mut Text, filter: u32, passed: Lid) -> Result<(), NoMemory>
     text.number(passed)
 }
 
+// So many maintainers own positions from there on.
 fn put_epoch(text: &mut Text, start: Lid, members: u32) -> Result<(), NoMemory>
     ensures { OnOk result (text.new ≡ text.old ++ spaced (outcome_words (EpochAdded start members))) }
 {
@@ -245,6 +264,7 @@ fn put_epoch(text: &mut Text, start: Lid, members: u32) -> Result<(), NoMemory>
     text.number(u64::from(members))
 }
 
+// The packets of a link, and whether the oldest was lost.
 fn put_link(text: &mut Text, link: u32, lost: bool) -> Result<(), NoMemory>
     ensures { OnOk result (text.new ≡ text.old ++ spaced (link_words link lost)) }
 {
@@ -252,6 +272,7 @@ fn put_link(text: &mut Text, link: u32, lost: bool) -> Result<(), NoMemory>
     if lost { text.word(b"lost") } else { Ok(()) }
 }
 
+// The words of each item that was handed to a filter.
 fn put_flushed(text: &mut Text, items: &Seq<FlushItem>) -> Result<(), NoMemory>
     ensures { OnOk result (text.new ≡ text.old ++ spaced (flushes_words items.now)) }
 {
@@ -261,6 +282,7 @@ fn put_flushed(text: &mut Text, items: &Seq<FlushItem>) -> Result<(), NoMemory>
     Ok(())
 }
 
+// An item, its filter, and what became of it there.
 fn put_flush(text: &mut Text, item: &FlushItem) -> Result<(), NoMemory>
     ensures { OnOk result (text.new ≡ text.old ++ spaced (flush_words item.now)) }
 {
@@ -269,6 +291,7 @@ fn put_flush(text: &mut Text, item: &FlushItem) -> Result<(), NoMemory>
     text.word(way_name(item.way))
 }
 
+// What an item is called.
 fn put_item(text: &mut Text, name: &ItemName) -> Result<(), NoMemory>
     ensures { OnOk result (text.new ≡ text.old ++ with_space (item_word name.now)) }
 {
@@ -278,6 +301,7 @@ fn put_item(text: &mut Text, name: &ItemName) -> Result<(), NoMemory>
     }
 }
 
+// What became of an item.
 fn way_name(way: Way) -> &'static [u8]
     ensures { result.now ≡ way_word way }
 {

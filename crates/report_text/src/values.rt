@@ -1,5 +1,8 @@
-//! The words of single values. Where a function writes several words, a space stands before each.
+//! The words of single values. Where a function writes several words, a space stands before each. Each fails only
+//! where memory runs out.
+
 ghost use Rattle.std.specs.Prelude.{◌≡◌, ◌<◌, ◌++◌, OnOk};
+ghost use Rattle.cz_base.specs.declared.limits.TheConstants.{DATACENTRES};
 ghost use Rattle.report_text.specs.Lines.{spaced, with_space};
 ghost use Rattle.report_text.specs.Values.{body_word, counts_word, draft_word, kind_word, letter, name_word, names_words, numbers_words, place_words, places_words, table_word};
 
@@ -16,7 +19,7 @@ pub fn letter_word(text: &mut Text, dc: DcId) -> Result<(), NoMemory>
 
 /// A space and the letter of the datacentre with a number.
 pub fn letter_of(text: &mut Text, number: u32) -> Result<(), NoMemory>
-    requires { number < 8 }
+    requires { number < DATACENTRES }
     ensures { OnOk result (text.new ≡ text.old ++ with_space (letter number)) }
 {
     text.word(&[b'A' + number as u8])
@@ -40,6 +43,7 @@ pub fn put_draft(text: &mut Text, session: u32, index: u32) -> Result<(), NoMemo
     text.put_number(u64::from(index))
 }
 
+/// A position, and the name of the record there.
 pub fn put_place(text: &mut Text, place: &Place) -> Result<(), NoMemory>
     ensures { OnOk result (text.new ≡ text.old ++ spaced (place_words place.now)) }
 {
@@ -47,6 +51,7 @@ pub fn put_place(text: &mut Text, place: &Place) -> Result<(), NoMemory>
     put_name(text, place.host, place.toid)
 }
 
+/// Places, one after another.
 pub fn put_places(text: &mut Text, places: &Seq<Place>) -> Result<(), NoMemory>
     ensures { OnOk result (text.new ≡ text.old ++ spaced (places_words places.now)) }
 {
@@ -56,6 +61,7 @@ pub fn put_places(text: &mut Text, places: &Seq<Place>) -> Result<(), NoMemory>
     Ok(())
 }
 
+/// Names of records.
 pub fn put_names(text: &mut Text, names: &Seq<(DcId, Toid)>) -> Result<(), NoMemory>
     ensures { OnOk result (text.new ≡ text.old ++ spaced (names_words names.now)) }
 {
@@ -65,6 +71,7 @@ pub fn put_names(text: &mut Text, names: &Seq<(DcId, Toid)>) -> Result<(), NoMem
     Ok(())
 }
 
+/// Positions.
 pub fn put_lids(text: &mut Text, lids: &Seq<Lid>) -> Result<(), NoMemory>
     ensures { OnOk result (text.new ≡ text.old ++ spaced (numbers_words lids.now)) }
 {
@@ -92,6 +99,7 @@ pub fn put_body(text: &mut Text, body: &Body) -> Result<(), NoMemory>
     text.put(body.as_bytes())
 }
 
+/// The word of a kind.
 pub fn kind_name(kind: Kind) -> &'static [u8]
     ensures { result.now ≡ kind_word kind }
 {

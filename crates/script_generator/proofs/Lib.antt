@@ -1,3 +1,4 @@
+-- The lemmas of the crate, file by file.
 pub mod CommandLemmas
 pub mod DrawLemmas
 pub mod ScriptLemmas

@@ -9,8 +9,7 @@ use Rattle.abstract_log.specs.declared.script.Sizes.{Sizes}
 use Rattle.abstract_log.specs.declared.script.Step.{Step}
 use Rattle.abstract_log.specs.Commands.{no_plan}
 use Rattle.abstract_log.specs.Fits.{FitsPlan, FitsScript, FitsSizes}
-use Rattle.script_text.specs.Spelled.{IsBuiltStep}
-use Rattle.script_text.specs.Steps.{FitsStep}
+use Rattle.abstract_log.specs.Turns.{FitsStep, IsBuiltStep}
 use Rattle.script_generator.specs.Draws.{many, seeded}
 use Rattle.script_generator.specs.Generated.{plan, step, sizes, script, generated}
 use Rattle.script_generator.proofs.DrawLemmas.{length-many, All-many}

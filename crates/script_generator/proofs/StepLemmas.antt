@@ -4,8 +4,7 @@ use Rattle.std.specs.Prelude.{nat_lt, ◌==◌}
 use Rattle.rand_pcg.specs.Lcg.{Lcg}
 use Rattle.abstract_log.specs.declared.command.Workload.{Workload}
 use Rattle.abstract_log.specs.declared.script.Step.{Step}
-use Rattle.script_text.specs.Spelled.{IsBuiltStep}
-use Rattle.script_text.specs.Steps.{AreTwo, FitsStep, IsMember, IsPacket, IsPosition}
+use Rattle.abstract_log.specs.Turns.{AreTwo, FitsStep, IsBuiltStep, IsMember, IsPacket, IsPosition}
 use Rattle.script_generator.specs.Draws.{draw}
 use Rattle.script_generator.specs.Generated.{other, draw_from_1, step_by, step}
 use Rattle.script_generator.proofs.DrawLemmas.{draw_below, either_way}
@@ -49,15 +48,15 @@ unfolding step_by
 step_by_fits load d choice g is below =
     let there : d < load.dcs = omega (arith, is.dcs) in
     let apart = λ (h : Lcg). other_apart load d h is below in
-    either_way (IsTurn load) (nat_lt choice 2) _ _ g (record { fits = omega (arith, is.sessions, draw_below 12 g (omega arith)); built = tt })
+    either_way (IsTurn load) (nat_lt choice 2) _ _ g (record { fits = (omega (arith, is.sessions, draw_below 12 g (omega arith)), tt); built = tt })
     (either_way (IsTurn load) (choice == 2) _ _ g (record { fits = (there, two g); built = tt })
     (either_way (IsTurn load) (choice == 3) _ _ g (record { fits = (there, (two g, two (draw 2 g).1)); built = tt })
     (either_way (IsTurn load) (choice == 4) _ _ g (record { fits = (there, two g); built = tt })
-    (either_way (IsTurn load) (choice == 5) _ _ g (record { fits = there; built = tt })
+    (either_way (IsTurn load) (choice == 5) _ _ g (record { fits = (there, tt); built = tt })
     (either_way (IsTurn load) (choice == 6) _ _ g (record { fits = (there, (two g, three (draw 2 g).1)); built = tt })
     (either_way (IsTurn load) (choice == 7) _ _ g (record { fits = (there, (three g, three (draw 3 g).1)); built = tt })
     (either_way (IsTurn load) (choice == 8) _ _ g (record { fits = (there, (three g, two (draw 3 g).1)); built = tt })
-    (either_way (IsTurn load) (choice == 9) _ _ g (record { fits = there; built = tt })
+    (either_way (IsTurn load) (choice == 9) _ _ g (record { fits = (there, tt); built = tt })
     (either_way (IsTurn load) (choice == 10) _ _ g (record { fits = (apart (draw 2 g).1, two g); built = tt })
     (either_way (IsTurn load) (choice == 11) _ _ g (record { fits = (apart g, (packet (other d g).1, two (draw_from_1 4 (other d g).1).1)); built = tt })
     (either_way (IsTurn load) (choice == 12) _ _ g (record { fits = (apart g, packet (other d g).1); built = tt })

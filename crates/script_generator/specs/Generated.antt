@@ -12,17 +12,21 @@ use Rattle.script_generator.specs.Draws.{Drawn, seeded, draw, give, ◌>>=◌, �
 
 -- A name is a letter and a number.
 
+-- a key
 abbrev pub key_name : ℕ → List ℕ
 key_name n = codes "k" ++ decimal n
 
+-- a tag
 abbrev pub tag_name : ℕ → List ℕ
 tag_name n = codes "t" ++ decimal n
 
 -- A body names its command: `v3.17` is what command 17 of session 3 puts, and `a3.17` what it appends.
 
+-- the name of command k of session s
 abbrev pub command_name : ℕ → ℕ → List ℕ
 command_name s k = decimal s ++ (codes "." ++ decimal k)
 
+-- what it puts, and what it appends
 abbrev pub put_body : ℕ → ℕ → List ℕ
 put_body s k = codes "v" ++ command_name s k
 
@@ -96,6 +100,7 @@ step = do
 
 -- The script.
 
+-- how many members the stages of each datacentre have
 abbrev pub sizes : Sizes
 sizes = record { batchers = 2; filters = 2; queues = 2; maintainers = 3; indexers = 2; senders = 2; receivers = 2 }
 
@@ -106,5 +111,6 @@ script = do
   steps ← many (λ _. step) 20000
   give (record { workload = record { dcs = 3; sessions = plans }; round = 4; sizes = sizes ∷ sizes ∷ sizes ∷ []; steps = steps })
 
+-- the script of a seed
 unfoldable pub generated : ℕ → Script
 generated seed = (script (seeded seed)).0

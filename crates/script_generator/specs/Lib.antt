@@ -1,2 +1,3 @@
+-- The definitions of the crate, file by file.
 pub mod Draws
 pub mod Generated

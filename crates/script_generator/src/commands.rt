@@ -1,23 +1,25 @@
+//! The sessions of a generated script, and the table of their commands.
+
 ghost use Rattle.std.specs.Prelude.{◌≡◌, IfOk};
 ghost use Rattle.script_generator.specs.Generated.{key, tag, command_by, command, plan};
 
-use crate::datacentres::{DATACENTRES, datacentre};
+use crate::datacentres::datacentre;
 use crate::draws::Draws;
+use crate::shape::{COMMAND_COUNT, DATACENTRE_COUNT};
 use crate::texts::{append_body, key_name, put_body, tag_name};
 use abstract_log::{Command, SessionPlan};
 use cz_base::{Name, NoMemory, Seq};
 use std::alloc::Global;
 
-const COMMANDS: u32 = 100;
-
-/// Session `s` with its commands, which count from 1.
+/// Session `s`, counted from 0, with its commands, which count from 1. It fails only where memory runs out.
 #[tactic(auto, unfolding(crate::specs::Generated::plan))]
 pub fn plan(alloc: Global, draws: &mut Draws, s: u32) -> Result<SessionPlan, NoMemory>
     ensures { IfOk result (λ made. (made, draws.new) ≡ plan s draws.old) }
 {
-    let home = datacentre(s % DATACENTRES);
-    let mut commands = Seq::new(alloc);
-    for before in 0..COMMANDS {
+    let home = datacentre(s % DATACENTRE_COUNT);
+    let room = Vec::with_capacity(alloc, COMMAND_COUNT as usize)?;
+    let mut commands = Seq::from_vec(room);
+    for before in 0..COMMAND_COUNT {
         commands.push(command(alloc, draws, s, before + 1)?)?;
     }
     Ok(SessionPlan { home, commands })

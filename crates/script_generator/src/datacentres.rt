@@ -1,11 +1,10 @@
+//! The datacentres of a generated script.
+
 ghost use Rattle.std.specs.Prelude.{◌≡◌, ◌<◌};
 
 use cz_base::DcId;
 
-/// How many datacentres a generated script has.
-pub const DATACENTRES: u32 = 3;
-
-/// The datacentre with a number.
+/// The datacentre with a number below [`DATACENTRE_COUNT`](crate::shape::DATACENTRE_COUNT).
 pub fn datacentre(number: u32) -> DcId
     requires { number < 3 }
     ensures { result ≡ number }

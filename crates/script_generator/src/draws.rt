@@ -1,3 +1,5 @@
+//! Numbers drawn from a seed.
+
 ghost use Rattle.std.specs.Prelude.{◌≡◌, ◌<◌, ◌≤◌};
 ghost use Rattle.script_generator.specs.Draws.{seeded, draw};
 
@@ -19,7 +21,7 @@ impl Model for Draws {
     ghost view = { λ draws. draws.words };
 }
 
-/// All seeds draw from this stream of the generator.
+// All seeds draw from this stream of the generator.
 const STREAM: u64 = 1;
 
 impl Draws {
@@ -33,7 +35,7 @@ impl Draws {
         }
     }
 
-    /// The next number, which is below `limit`.
+    /// The next number, below `limit`: the next word of the generator modulo `limit`.
     #[tactic(auto, unfolding(crate::specs::Draws::draw))]
     pub fn draw(&mut self, limit: u32) -> u32
         requires { 1 ≤ limit }

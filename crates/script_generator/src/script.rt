@@ -1,33 +1,18 @@
+//! A whole generated script: its sessions, and then its steps.
+
 ghost use Rattle.std.specs.Prelude.{◌≡◌, All, IfOk};
 ghost use Rattle.abstract_log.specs.Fits.{FitsScript};
-ghost use Rattle.script_text.specs.Spelled.{IsBuiltStep};
-ghost use Rattle.script_text.specs.Steps.{FitsStep};
+ghost use Rattle.abstract_log.specs.Turns.{FitsStep, IsBuiltStep};
 ghost use Rattle.script_generator.specs.Draws.{many};
 ghost use Rattle.script_generator.specs.Generated.{generated, plan, step};
 
 use crate::commands::plan;
-use crate::datacentres::DATACENTRES;
 use crate::draws::Draws;
+use crate::shape::{DATACENTRE_COUNT, ROUND_LENGTH, SESSION_COUNT, SIZES, STEP_COUNT};
 use crate::steps::step;
-use abstract_log::{Script, SessionPlan, Sizes, Step, Workload};
+use abstract_log::{Script, SessionPlan, Step, Workload};
 use cz_base::{NoMemory, Seq};
 use std::alloc::Global;
-
-const SESSIONS: u32 = 12;
-
-const ROUND: u32 = 4;
-
-const STEPS: u32 = 20_000;
-
-const SIZES: Sizes = Sizes {
-    batchers: 2,
-    filters: 2,
-    queues: 2,
-    maintainers: 3,
-    indexers: 2,
-    senders: 2,
-    receivers: 2,
-};
 
 /// The script that a number gives: 3 datacentres, 12 sessions with 100 commands each, and 20,000 steps.
 /// It fails only where memory runs out.
@@ -50,10 +35,10 @@ pub fn generate(alloc: Global, seed: u64) -> Result<Script, NoMemory>
     let sizes = Seq::from_vec(vec![in alloc; SIZES, SIZES, SIZES]?);
     Ok(Script {
         workload: Workload {
-            dcs: DATACENTRES,
+            dcs: DATACENTRE_COUNT,
             sessions,
         },
-        round: ROUND,
+        round: ROUND_LENGTH,
         sizes,
         steps,
     })
@@ -63,8 +48,9 @@ pub fn generate(alloc: Global, seed: u64) -> Result<Script, NoMemory>
 fn sessions(alloc: Global, draws: &mut Draws) -> Result<Seq<SessionPlan>, NoMemory>
     ensures { IfOk result (λ made. (made, draws.new) ≡ many plan 12 draws.old) }
 {
-    let mut sessions = Seq::new(alloc);
-    for s in 0..SESSIONS {
+    let room = Vec::with_capacity(alloc, SESSION_COUNT as usize)?;
+    let mut sessions = Seq::from_vec(room);
+    for s in 0..SESSION_COUNT {
         sessions.push(plan(alloc, draws, s)?)?;
     }
     Ok(sessions)
@@ -74,8 +60,9 @@ fn sessions(alloc: Global, draws: &mut Draws) -> Result<Seq<SessionPlan>, NoMemo
 fn steps(alloc: Global, draws: &mut Draws) -> Result<Seq<Step>, NoMemory>
     ensures { IfOk result (λ made. (made, draws.new) ≡ many (λ _. step) 20000 draws.old) }
 {
-    let mut steps = Seq::new(alloc);
-    for _step in 0..STEPS {
+    let room = Vec::with_capacity(alloc, STEP_COUNT as usize)?;
+    let mut steps = Seq::from_vec(room);
+    for _step in 0..STEP_COUNT {
         steps.push(step(draws))?;
     }
     Ok(steps)

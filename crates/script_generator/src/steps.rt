@@ -1,17 +1,20 @@
+//! The table of the steps of a generated script.
+
 ghost use Rattle.std.specs.Prelude.{◌≡◌, ◌<◌, ◌≤◌};
 ghost use Rattle.script_generator.specs.Generated.{other, draw_from_1, step_by, step};
 
-use crate::datacentres::{DATACENTRES, datacentre};
+use crate::datacentres::datacentre;
 use crate::draws::Draws;
+use crate::shape::{DATACENTRE_COUNT, SESSION_COUNT};
 use abstract_log::Step;
 use cz_base::DcId;
 
-/// The next step.
+/// The next step: a datacentre is drawn, then the row of the table, then what the row leaves open.
 #[tactic(auto, unfolding(crate::specs::Generated::step))]
 pub fn step(draws: &mut Draws) -> Step
     ensures { (result, draws.new) ≡ step draws.old }
 {
-    let d = datacentre(draws.draw(DATACENTRES));
+    let d = datacentre(draws.draw(DATACENTRE_COUNT));
     let choice = draws.draw(16);
     step_by(draws, d, choice)
 }
@@ -23,7 +26,9 @@ fn step_by(draws: &mut Draws, d: DcId, choice: u32) -> Step
     ensures { (result, draws.new) ≡ step_by d choice draws.old }
 {
     match choice {
-        0..=1 => Step::Client { s: draws.draw(12) },
+        0..=1 => Step::Client {
+            s: draws.draw(SESSION_COUNT),
+        },
         2..=9 => stage_step(draws, d, choice),
         10..=13 => link_step(draws, d, choice),
         14 => Step::Floor {
@@ -116,7 +121,7 @@ fn other(draws: &mut Draws, d: DcId) -> DcId
     ensures { (result, draws.new) ≡ other d draws.old }
 {
     let number = draws.draw(2);
-    datacentre((d.number() + 1 + number) % DATACENTRES)
+    datacentre((d.number() + 1 + number) % DATACENTRE_COUNT)
 }
 
 // A number from 1 to `most`.

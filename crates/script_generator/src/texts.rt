@@ -1,3 +1,5 @@
+//! The names and bodies that generated commands carry.
+
 ghost use Rattle.std.specs.Prelude.{◌≡◌, IfOk};
 ghost use Rattle.cz_base.specs.Text.{IsName, IsBody};
 ghost use Rattle.script_generator.specs.Generated.{key_name, tag_name, put_body, append_body};
@@ -5,28 +7,28 @@ ghost use Rattle.script_generator.specs.Generated.{key_name, tag_name, put_body,
 use cz_base::{Body, BodyFault, Name, NameFault, NoMemory};
 use std::alloc::Global;
 
-/// The key with a number.
+/// The key with a number, `k` and the number. It fails only where memory runs out.
 pub fn key_name(alloc: Global, number: u32) -> Result<Name, NoMemory>
     ensures { IfOk result (λ name. name ≡ key_name number) }
 {
     name(alloc, &format!(in alloc; "k{number}")?)
 }
 
-/// The tag with a number.
+/// The tag with a number, `t` and the number. It fails only where memory runs out.
 pub fn tag_name(alloc: Global, number: u32) -> Result<Name, NoMemory>
     ensures { IfOk result (λ name. name ≡ tag_name number) }
 {
     name(alloc, &format!(in alloc; "t{number}")?)
 }
 
-/// What a put writes, the command `index` of a session.
+/// What a put writes that is the command `index` of a session. It fails only where memory runs out.
 pub fn put_body(alloc: Global, session: u32, index: u32) -> Result<Body, NoMemory>
     ensures { IfOk result (λ body. body ≡ put_body session index) }
 {
     body(alloc, &format!(in alloc; "v{session}.{index}")?)
 }
 
-/// What an append writes, the command `index` of a session.
+/// What an append writes that is the command `index` of a session. It fails only where memory runs out.
 pub fn append_body(alloc: Global, session: u32, index: u32) -> Result<Body, NoMemory>
     ensures { IfOk result (λ body. body ≡ append_body session index) }
 {

@@ -1,5 +1,5 @@
--- Steps of reading that went on.
-use Rattle.std.proofs.Common.{◌≡◌, ℕ, refl, Bool, true, false, cond, not, ◌&&◌, ◌||◌, ◌⊎◌, inl, inr}
+-- Steps of reading that went on: what an answer that is `Ok` tells of the calls and tests before it.
+use Rattle.std.proofs.Common.{◌≡◌, ℕ, refl, Bool, true, false, cond, ◌⊎◌, inl, inr}
 use Rattle.std.specs.Prelude.{Ok, Err, Result, Option, Some, None, is_none}
 use Rattle.script_text.specs.declared.fault.Cause.{Cause}
 use Rattle.script_text.specs.declared.progress.Progress.{Progress}
@@ -27,10 +27,6 @@ pub pass_ok : {A E : Type 0} (b : Bool) (e : E) (r : Result A E) (y : A) → con
 pass_ok true e r y same = (refl, same)
 pass_ok false e r y same = cc
 
-pub and_both : (a b : Bool) → (a && b) ≡ true → (a ≡ true) × (b ≡ true)
-and_both true b same = (refl, same)
-and_both false b same = cc
-
 pub chosen : {A : Type 0} (b : Bool) (x y z : A) → cond b x y ≡ z → (x ≡ z) ⊎ (y ≡ z)
 chosen true x y z same = inl same
 chosen false x y z same = inr same
@@ -38,14 +34,6 @@ chosen false x y z same = inr same
 pub told_ok : (number : ℕ) (r : Result Progress Cause) (y : Progress) → told number r ≡ Ok y → r ≡ Ok y
 told_ok number (Ok x) y same = cc
 told_ok number (Err e) y same = cc
-
-pub not_false : (b : Bool) → not b ≡ false → b ≡ true
-not_false true h = refl
-not_false false h = cc
-
-pub or_false : (a b : Bool) → (a || b) ≡ false → (a ≡ false) × (b ≡ false)
-or_false true b same = cc
-or_false false b same = (refl, same)
 
 pub none_is : (o : Option ℕ) → is_none o ≡ true → o ≡ None
 none_is None h = refl

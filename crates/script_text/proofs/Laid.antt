@@ -1,15 +1,14 @@
--- What has been said is what the lines so far write.
-use Rattle.std.proofs.Common.{◌≡◌, ◌<◌, ◌≤◌, ◌+◌, ℕ, List, [], ◌∷◌, ◌++◌, length, refl, ap, sym, subst, ◌∙◌, arith, Bool, true, false, cond, not, ◌||◌, nat_eq, ◌⊎◌, inl, inr, map, append_assoc, lit<, All}
-use Rattle.std.specs.Prelude.{nat_le, nat_lt, Ok, Err, Result, Option, Some, None, IfOk, codes, bytes_eq}
-use Rattle.std.specs.List.{list_all, list_any, find, flat_map}
+-- What has been said is what the lines so far write: lines from which a script is read write it.
+-- By cases on each line (`line-adds`), and then by induction on the lines that are left (`script_from-ends`).
+-- The theorem is `script_of-written`; the contract of `read_script` takes its parts from `all-written` on.
+use Rattle.std.proofs.Common.{◌≡◌, ◌<◌, ◌≤◌, ◌+◌, ℕ, List, [], ◌∷◌, ◌++◌, length, refl, ap, sym, subst, ◌∙◌, arith, Bool, true, false, cond, not, ◌||◌, nat_eq, ◌⊎◌, inr, map, append_assoc, lit<, All}
+use Rattle.std.specs.Prelude.{nat_le, nat_lt, Ok, Err, Result, Option, Some, None, IfOk, codes}
+use Rattle.std.specs.List.{list_all, list_any}
 use Rattle.std.specs.Fmt.{decimal}
 use Rattle.std.proofs.lemmas.Bool.Decides.{nat_tests}
-use Rattle.std.proofs.lemmas.Grind.{flat_map-append}
-use Rattle.std.proofs.lemmas.List.{map-append, append-nil}
+use Rattle.std.proofs.lemmas.List.{map-append, append-nil, nil_from_length}
 use Rattle.std.proofs.lemmas.List.Elements.{All-nil, All-cons}
-use Rattle.std.proofs.lemmas.Slice.Eq.{bytes_eq-Decides}
 use Rattle.abstract_log.specs.declared.command.Command.{Command}
-use Rattle.abstract_log.specs.declared.command.Command.TheVariants as command
 use Rattle.abstract_log.specs.declared.command.SessionPlan.{SessionPlan}
 use Rattle.abstract_log.specs.declared.script.Script.{Script}
 use Rattle.abstract_log.specs.declared.script.Sizes.{Sizes}
@@ -23,183 +22,25 @@ use Rattle.script_text.specs.declared.keyword.CommandWord.{CommandWord}
 use Rattle.script_text.specs.declared.keyword.CommandWord.TheVariants.{Append, Put, Get, Tx, Read, Last}
 use Rattle.script_text.specs.declared.keyword.TurnWord.{TurnWord}
 use Rattle.script_text.specs.declared.section.Section.{Section}
-use Rattle.script_text.specs.declared.section.Section.TheVariants as section
 use Rattle.script_text.specs.declared.progress.Progress.{Progress}
 use Rattle.script_text.specs.declared.progress.Stages.{Stages as StagesOf}
 use Rattle.script_text.specs.Words.{words, is_line_byte, is_empty_word}
-use Rattle.script_text.specs.Reading.{number_at, datacentre_at, body_at, name_at, names_in}
-use Rattle.script_text.specs.Keywords.{text_of, turn_text, keywords, keyword_of, stands, is_built, turn_arguments, least_words, most_words, is_start, is_datacentres, is_round, is_stages, is_sessions, is_steps, is_ended}
+use Rattle.script_text.specs.Reading.{number_at, datacentre_at, body_at, name_at, names_in, greatest_number}
+use Rattle.script_text.specs.Keywords.{text_of, turn_text, keyword_of, stands, is_built, turn_arguments, least_words, most_words, is_ended}
 use Rattle.script_text.specs.Meaning.{start, chariots_line, datacentres_line, round_line, sizes_at, stages_line, session_line, onto_last, with_command, append_line, put_line, get_line, tx_line, read_line, last_line, turn_line, command_meaning, meaning, keyword_after, words_after, is_passed_over, line_after, is_given, script_said, told, next_number, script_from, script_of}
-use Rattle.script_text.specs.Spelled.{letter, command_words, plan_lines, stages_words, first_words, datacentres_words, round_words, before_steps, turn_words, steps_words, end_words, said_words, Spells, IsBuiltStep, IsWritten}
-use Rattle.script_text.specs.Steps.{FitsStep}
+use Rattle.script_text.specs.Spelled.{letter, command_words, stages_words, first_words, datacentres_words, round_words, before_steps, turn_words, steps_words, end_words, said_words, Spells, IsWritten}
+use Rattle.abstract_log.specs.Turns.{FitsStep, IsBuiltStep}
 use Rattle.abstract_log.specs.Fits.{FitsScript}
-use Rattle.script_text.proofs.Sound.{IsSound, start-sound, line-sound, said-fits, rank-ended, rank-upto}
-use Rattle.script_text.proofs.Going.{okay, okay-same, bind_ok, guard_ok, pass_ok, not_false, or_false, told_ok}
-use Rattle.script_text.proofs.Spelling.{number_spells, datacentre_spells, body_spells, name_spells, names_spell, none_left, one_number}
+use Rattle.std.proofs.lemmas.Bool.{or_parts, not-false}
+use Rattle.cz_base.specs.declared.limits.TheConstants.{DATACENTRES, MEMBERS, SESSIONS, COMMANDS, ROUND, LAST_RECORDS}
+use Rattle.abstract_log.specs.declared.command.Command.TheVariants as command
+use Rattle.script_text.specs.declared.section.Section.TheVariants as section
+use Rattle.script_text.proofs.Going.{okay, okay-same, bind_ok, guard_ok, pass_ok, told_ok}
+use Rattle.script_text.proofs.SoFar.{keyword_text, so_far_at, laid_at, Lays, empty-before, stages-before, sessions-before, commands-before, either-before, IsLine}
+use Rattle.script_text.proofs.Sections.{at-start, at-datacentres, at-round, at-stages, at-sessions, at-either, at-steps, at-ended, rank-upto, rank-ended}
+use Rattle.script_text.proofs.Sound.{IsSound, start-sound, line-sound, said-fits}
+use Rattle.script_text.proofs.Spelling.{number_spells, datacentre_spells, body_spells, name_spells, names_spell, one_number}
 use Rattle.script_text.proofs.TurnLemmas.{and_step, turn_takes}
-
--- The keyword that was found is the word.
-
-some-same : (x y : Keyword) → Some x ≡ Some y → x ≡ y
-some-same x y same = cc
-
-find_passes : (test : Keyword → Bool) (all : List Keyword) (k : Keyword) → find test all ≡ Some k → test k ≡ true
-find_passes test [] k same = cc
-find_passes test (first ∷ more) k same =
-    elim (test first) as (λ v. (test first ≡ v) → cond v (Some first) (find test more) ≡ Some k → test k ≡ true) [
-      | true ↦ λ is chose. subst (λ (w : Keyword). test w ≡ true) (some-same first k chose) is
-      | false ↦ λ is chose. find_passes test more k chose
-    ] refl same
-
-keyword_text : (word : List ℕ) (k : Keyword) → keyword_of word ≡ Some k → word ≡ text_of k
-unfolding keyword_of
-keyword_text word k same =
-    let passes : bytes_eq (text_of k) word ≡ true = find_passes (λ keyword. bytes_eq (text_of keyword) word) keywords k same in
-    sym ((bytes_eq-Decides (text_of k) word).0 passes)
-
--- What the lines so far write.
-
-abbrev pub so_far_at : Section → Progress → List (List (List ℕ))
-so_far_at section.Start said = []
-so_far_at section.Datacentres said = first_words ∷ []
-so_far_at section.Round said = first_words ∷ datacentres_words said.dcs ∷ []
-so_far_at section.Stages said = before_steps said.dcs said.round said.stages said.sessions
-so_far_at section.Sessions said = before_steps said.dcs said.round said.stages said.sessions
-so_far_at section.Steps said = before_steps said.dcs said.round said.stages said.sessions ++ steps_words ∷ map turn_words said.steps
-so_far_at section.Ended said = before_steps said.dcs said.round said.stages said.sessions ++ steps_words ∷ (map turn_words said.steps ++ end_words ∷ [])
-
--- no `stages` line stands before its part, and no session
-abbrev pub laid_at : Section → Progress → Type 0
-laid_at section.Start said = (said.stages ≡ []) × (said.sessions ≡ [])
-laid_at section.Datacentres said = (said.stages ≡ []) × (said.sessions ≡ [])
-laid_at section.Round said = (said.stages ≡ []) × (said.sessions ≡ [])
-laid_at section.Stages said = said.sessions ≡ []
-laid_at section.Sessions said = Unit {0}
-laid_at section.Steps said = Unit {0}
-laid_at section.Ended said = Unit {0}
-
--- a line that is not passed over adds its words
-pub record Lays (said after : Progress) (line : List (List ℕ)) : Type 0 where
-  pub laid : laid_at after.section after
-  pub more : so_far_at after.section after ≡ so_far_at said.section said ++ line ∷ []
-
--- the sections
-
-at-start : (here : Section) → is_start here ≡ true → here ≡ section.Start
-at-start section.Start h = refl
-at-start section.Datacentres h = cc
-at-start section.Round h = cc
-at-start section.Stages h = cc
-at-start section.Sessions h = cc
-at-start section.Steps h = cc
-at-start section.Ended h = cc
-
-at-datacentres : (here : Section) → is_datacentres here ≡ true → here ≡ section.Datacentres
-at-datacentres section.Start h = cc
-at-datacentres section.Datacentres h = refl
-at-datacentres section.Round h = cc
-at-datacentres section.Stages h = cc
-at-datacentres section.Sessions h = cc
-at-datacentres section.Steps h = cc
-at-datacentres section.Ended h = cc
-
-at-round : (here : Section) → is_round here ≡ true → here ≡ section.Round
-at-round section.Start h = cc
-at-round section.Datacentres h = cc
-at-round section.Round h = refl
-at-round section.Stages h = cc
-at-round section.Sessions h = cc
-at-round section.Steps h = cc
-at-round section.Ended h = cc
-
-at-stages : (here : Section) → is_stages here ≡ true → here ≡ section.Stages
-at-stages section.Start h = cc
-at-stages section.Datacentres h = cc
-at-stages section.Round h = cc
-at-stages section.Stages h = refl
-at-stages section.Sessions h = cc
-at-stages section.Steps h = cc
-at-stages section.Ended h = cc
-
-at-sessions : (here : Section) → is_sessions here ≡ true → here ≡ section.Sessions
-at-sessions section.Start h = cc
-at-sessions section.Datacentres h = cc
-at-sessions section.Round h = cc
-at-sessions section.Stages h = cc
-at-sessions section.Sessions h = refl
-at-sessions section.Steps h = cc
-at-sessions section.Ended h = cc
-
-at-either : (here : Section) → (is_stages here || is_sessions here) ≡ true → (here ≡ section.Stages) ⊎ (here ≡ section.Sessions)
-at-either section.Start h = cc
-at-either section.Datacentres h = cc
-at-either section.Round h = cc
-at-either section.Stages h = inl refl
-at-either section.Sessions h = inr refl
-at-either section.Steps h = cc
-at-either section.Ended h = cc
-
-at-steps : (here : Section) → is_steps here ≡ true → here ≡ section.Steps
-at-steps section.Start h = cc
-at-steps section.Datacentres h = cc
-at-steps section.Round h = cc
-at-steps section.Stages h = cc
-at-steps section.Sessions h = cc
-at-steps section.Steps h = refl
-at-steps section.Ended h = cc
-
-at-ended : (here : Section) → is_ended here ≡ true → here ≡ section.Ended
-at-ended section.Start h = cc
-at-ended section.Datacentres h = cc
-at-ended section.Round h = cc
-at-ended section.Stages h = cc
-at-ended section.Sessions h = cc
-at-ended section.Steps h = cc
-at-ended section.Ended h = refl
-
--- What stands before `steps`, grown by one line.
-
-empty-before : (dcs round : ℕ) (stages : List StagesOf) (plans : List SessionPlan) → stages ≡ [] → plans ≡ []
-    → before_steps dcs round stages plans ≡ first_words ∷ datacentres_words dcs ∷ round_words round ∷ []
-unfolding before_steps
-empty-before dcs round stages plans none nobody = rw (none, nobody) refl
-
-stages-list : (stages : List StagesOf) (given : StagesOf) (later : List (List (List ℕ))) → later ≡ []
-    → map stages_words (stages ++ given ∷ []) ++ later ≡ (map stages_words stages ++ later) ++ stages_words given ∷ []
-stages-list stages given later none =
-    subst (λ (ls : List (List (List ℕ))). map stages_words (stages ++ given ∷ []) ++ ls ≡ (map stages_words stages ++ ls) ++ stages_words given ∷ []) (sym none)
-    (append-nil (map stages_words (stages ++ given ∷ [])) ∙ map-append stages_words stages (given ∷ [])
-    ∙ ap (λ (ls : List (List (List ℕ))). ls ++ stages_words given ∷ []) (sym (append-nil (map stages_words stages))))
-
-stages-before : (dcs round : ℕ) (stages : List StagesOf) (given : StagesOf) (plans : List SessionPlan) → plans ≡ []
-    → before_steps dcs round (stages ++ given ∷ []) plans ≡ before_steps dcs round stages plans ++ stages_words given ∷ []
-unfolding before_steps
-stages-before dcs round stages given plans nobody =
-    ap (λ (ls : List (List (List ℕ))). first_words ∷ datacentres_words dcs ∷ round_words round ∷ ls)
-    (stages-list stages given (flat_map plan_lines plans) (ap (λ (ps : List SessionPlan). flat_map plan_lines ps) nobody))
-
-sessions-before : (dcs round : ℕ) (stages : List StagesOf) (plans : List SessionPlan) (home : ℕ)
-    → before_steps dcs round stages (plans ++ record { home = home; commands = [] } ∷ []) ≡ before_steps dcs round stages plans ++ (codes "session" ∷ letter home ∷ []) ∷ []
-unfolding before_steps
-sessions-before dcs round stages plans home = simp (flat_map-append, append_assoc) refl
-
-onto_last-lines : (plans : List SessionPlan) (c : Command) → 0 < length plans → flat_map plan_lines (onto_last plans c) ≡ flat_map plan_lines plans ++ command_words c ∷ []
-onto_last-lines [] c some = absurd (omega arith)
-onto_last-lines (plan ∷ []) c some =
-    append-nil ((codes "session" ∷ letter plan.home ∷ []) ∷ map command_words (plan.commands ++ c ∷ []))
-    ∙ ap (λ (ls : List (List (List ℕ))). (codes "session" ∷ letter plan.home ∷ []) ∷ ls) (map-append command_words plan.commands (c ∷ []))
-    ∙ ap (λ (ls : List (List (List ℕ))). ls ++ command_words c ∷ []) (sym (append-nil (plan_lines plan)))
-onto_last-lines (plan ∷ next ∷ more) c some =
-    ap (λ (ls : List (List (List ℕ))). plan_lines plan ++ ls) (onto_last-lines (next ∷ more) c (omega arith)) ∙ sym (append_assoc (plan_lines plan) (flat_map plan_lines (next ∷ more)) (command_words c ∷ []))
-
-commands-before : (dcs round : ℕ) (stages : List StagesOf) (plans : List SessionPlan) (c : Command) → 0 < length plans
-    → before_steps dcs round stages (onto_last plans c) ≡ before_steps dcs round stages plans ++ command_words c ∷ []
-unfolding before_steps
-commands-before dcs round stages plans c some =
-    ap (λ (ls : List (List (List ℕ))). first_words ∷ datacentres_words dcs ∷ round_words round ∷ (map stages_words stages ++ ls)) (onto_last-lines plans c some)
-    ∙ ap (λ (ls : List (List (List ℕ))). first_words ∷ datacentres_words dcs ∷ round_words round ∷ ls) (sym (append_assoc (map stages_words stages) (flat_map plan_lines plans) (command_words c ∷ [])))
-
--- The lines.
 
 chariots-lays : (said after : Progress) (left : List (List ℕ)) → said.section ≡ section.Start → laid_at said.section said → length left ≤ 1 → chariots_line said left ≡ Ok after
     → Lays said after (codes "chariots" ∷ left)
@@ -223,8 +64,8 @@ datacentres-lays : (said after : Progress) (left : List (List ℕ)) → said.sec
     → Lays said after (codes "datacentres" ∷ left)
 unfolding datacentres_line
 datacentres-lays said after left here laid few same =
-    let read = bind_ok (number_at 1 8 left) _ after same in
-    let alone = one_number 1 8 left read.0 (lit< tt) few read.1.0 in
+    let read = bind_ok (number_at 1 DATACENTRES left) _ after same in
+    let alone = one_number 1 DATACENTRES left read.0 (lit< tt) few read.1.0 in
     let is : record said { dcs = read.0.0; section = section.Round } ≡ after = okay-same (record said { dcs = read.0.0; section = section.Round }) after read.1.1 in
     let none : (said.stages ≡ []) × (said.sessions ≡ []) = subst (λ (s : Section). laid_at s said) here laid in
     let before : so_far_at said.section said ≡ first_words ∷ [] = ap (λ (s : Section). so_far_at s said) here in
@@ -239,8 +80,8 @@ round-lays : (said after : Progress) (left : List (List ℕ)) → said.section �
     → Lays said after (codes "round" ∷ left)
 unfolding round_line
 round-lays said after left here laid few same =
-    let read = bind_ok (number_at 1 1024 left) _ after same in
-    let alone = one_number 1 1024 left read.0 (lit< tt) few read.1.0 in
+    let read = bind_ok (number_at 1 ROUND left) _ after same in
+    let alone = one_number 1 ROUND left read.0 (lit< tt) few read.1.0 in
     let is : record said { round = read.0.0; section = section.Stages } ≡ after = okay-same (record said { round = read.0.0; section = section.Stages }) after read.1.1 in
     let none : (said.stages ≡ []) × (said.sessions ≡ []) = subst (λ (s : Section). laid_at s said) here laid in
     let before : so_far_at said.section said ≡ first_words ∷ datacentres_words said.dcs ∷ [] = ap (λ (s : Section). so_far_at s said) here in
@@ -257,20 +98,20 @@ sizes_spell : (left : List (List ℕ)) (x : Sizes × List (List ℕ)) → sizes_
     → left ≡ decimal x.0.batchers ∷ decimal x.0.filters ∷ decimal x.0.queues ∷ decimal x.0.maintainers ∷ decimal x.0.indexers ∷ decimal x.0.senders ∷ decimal x.0.receivers ∷ x.1
 unfolding sizes_at
 sizes_spell left x same =
-    let one = bind_ok (number_at 1 16 left) _ x same in
-    let two = bind_ok (number_at 1 16 one.0.1) _ x one.1.1 in
-    let three = bind_ok (number_at 1 16 two.0.1) _ x two.1.1 in
-    let four = bind_ok (number_at 1 16 three.0.1) _ x three.1.1 in
-    let five = bind_ok (number_at 1 16 four.0.1) _ x four.1.1 in
-    let six = bind_ok (number_at 1 16 five.0.1) _ x five.1.1 in
-    let seven = bind_ok (number_at 1 16 six.0.1) _ x six.1.1 in
-    let a = (number_spells 1 16 left one.0 (lit< tt) one.1.0).word in
-    let b = (number_spells 1 16 one.0.1 two.0 (lit< tt) two.1.0).word in
-    let c = (number_spells 1 16 two.0.1 three.0 (lit< tt) three.1.0).word in
-    let d = (number_spells 1 16 three.0.1 four.0 (lit< tt) four.1.0).word in
-    let e = (number_spells 1 16 four.0.1 five.0 (lit< tt) five.1.0).word in
-    let f = (number_spells 1 16 five.0.1 six.0 (lit< tt) six.1.0).word in
-    let g = (number_spells 1 16 six.0.1 seven.0 (lit< tt) seven.1.0).word in
+    let one = bind_ok (number_at 1 MEMBERS left) _ x same in
+    let two = bind_ok (number_at 1 MEMBERS one.0.1) _ x one.1.1 in
+    let three = bind_ok (number_at 1 MEMBERS two.0.1) _ x two.1.1 in
+    let four = bind_ok (number_at 1 MEMBERS three.0.1) _ x three.1.1 in
+    let five = bind_ok (number_at 1 MEMBERS four.0.1) _ x four.1.1 in
+    let six = bind_ok (number_at 1 MEMBERS five.0.1) _ x five.1.1 in
+    let seven = bind_ok (number_at 1 MEMBERS six.0.1) _ x six.1.1 in
+    let a = (number_spells 1 MEMBERS left one.0 (lit< tt) one.1.0).word in
+    let b = (number_spells 1 MEMBERS one.0.1 two.0 (lit< tt) two.1.0).word in
+    let c = (number_spells 1 MEMBERS two.0.1 three.0 (lit< tt) three.1.0).word in
+    let d = (number_spells 1 MEMBERS three.0.1 four.0 (lit< tt) four.1.0).word in
+    let e = (number_spells 1 MEMBERS four.0.1 five.0 (lit< tt) five.1.0).word in
+    let f = (number_spells 1 MEMBERS five.0.1 six.0 (lit< tt) six.1.0).word in
+    let g = (number_spells 1 MEMBERS six.0.1 seven.0 (lit< tt) seven.1.0).word in
     let made : Sizes = record { batchers = one.0.0; filters = two.0.0; queues = three.0.0; maintainers = four.0.0; indexers = five.0.0; senders = six.0.0; receivers = seven.0.0 } in
     let pair : (made, seven.0.1) ≡ x = okay-same (made, seven.0.1) x seven.1.1 in
     let all = a ∙ ap (λ (ws : List (List ℕ)). decimal one.0.0 ∷ ws)
@@ -297,7 +138,7 @@ stages-lays said after left here laid few same =
     let none : length sizes.0.1 ≡ 0 = omega (arith, ap (λ (ws : List (List ℕ)). length ws) first, ap (λ (ws : List (List ℕ)). length ws) numbers, few) in
     let whole : left ≡ letter dc.0.0 ∷ decimal sizes.0.0.batchers ∷ decimal sizes.0.0.filters ∷ decimal sizes.0.0.queues ∷ decimal sizes.0.0.maintainers ∷ decimal sizes.0.0.indexers ∷ decimal sizes.0.0.senders ∷ decimal sizes.0.0.receivers ∷ []
     = first ∙ ap (λ (ws : List (List ℕ)). letter dc.0.0 ∷ ws) numbers
-    ∙ ap (λ (ws : List (List ℕ)). letter dc.0.0 ∷ decimal sizes.0.0.batchers ∷ decimal sizes.0.0.filters ∷ decimal sizes.0.0.queues ∷ decimal sizes.0.0.maintainers ∷ decimal sizes.0.0.indexers ∷ decimal sizes.0.0.senders ∷ decimal sizes.0.0.receivers ∷ ws) (none_left sizes.0.1 none) in
+    ∙ ap (λ (ws : List (List ℕ)). letter dc.0.0 ∷ decimal sizes.0.0.batchers ∷ decimal sizes.0.0.filters ∷ decimal sizes.0.0.queues ∷ decimal sizes.0.0.maintainers ∷ decimal sizes.0.0.indexers ∷ decimal sizes.0.0.senders ∷ decimal sizes.0.0.receivers ∷ ws) (nil_from_length sizes.0.1 none) in
     let written : stages_words given ≡ codes "stages" ∷ left = ap (λ (ws : List (List ℕ)). codes "stages" ∷ ws) (sym whole) in
     let before : so_far_at said.section said ≡ before_steps said.dcs said.round said.stages said.sessions = ap (λ (s : Section). so_far_at s said) here in
     let now : so_far_at said.section next ≡ before_steps said.dcs said.round (said.stages ++ given ∷ []) said.sessions = ap (λ (s : Section). so_far_at s next) here in
@@ -309,24 +150,18 @@ stages-lays said after left here laid few same =
     } in
     subst (λ (p : Progress). Lays said p (codes "stages" ∷ left)) is made
 
-either-before : (said : Progress) → (said.section ≡ section.Stages) ⊎ (said.section ≡ section.Sessions) → so_far_at said.section said ≡ before_steps said.dcs said.round said.stages said.sessions
-either-before said here = elim here [
-  | inl is ↦ ap (λ (s : Section). so_far_at s said) is
-  | inr is ↦ ap (λ (s : Section). so_far_at s said) is
-]
-
 session-lays : (said after : Progress) (left : List (List ℕ)) → (said.section ≡ section.Stages) ⊎ (said.section ≡ section.Sessions) → length left ≤ 1 → session_line said left ≡ Ok after
     → Lays said after (codes "session" ∷ left)
 unfolding session_line
 session-lays said after left here few same =
     let home = bind_ok (datacentre_at said.dcs left) _ after same in
-    let room = guard_ok (nat_eq (length said.sessions) 64) _ _ after home.1.1 in
+    let room = guard_ok (nat_eq (length said.sessions) SESSIONS) _ _ after home.1.1 in
     let plan : SessionPlan = record { home = home.0.0; commands = [] } in
     let next : Progress = record said { sessions = said.sessions ++ plan ∷ []; section = section.Sessions } in
     let is : next ≡ after = okay-same next after room.1 in
     let first = datacentre_spells said.dcs left home.0 home.1.0 in
     let none : length home.0.1 ≡ 0 = omega (arith, ap (λ (ws : List (List ℕ)). length ws) first, few) in
-    let whole : left ≡ letter home.0.0 ∷ [] = first ∙ ap (λ (ws : List (List ℕ)). letter home.0.0 ∷ ws) (none_left home.0.1 none) in
+    let whole : left ≡ letter home.0.0 ∷ [] = first ∙ ap (λ (ws : List (List ℕ)). letter home.0.0 ∷ ws) (nil_from_length home.0.1 none) in
     let made : Lays said next (codes "session" ∷ left) = record {
       laid = tt;
       more = sessions-before said.dcs said.round said.stages said.sessions home.0.0
@@ -338,7 +173,7 @@ session-lays said after left here few same =
 command-lays : (said after : Progress) (c : Command) (line : List (List ℕ)) → said.section ≡ section.Sessions → line ≡ command_words c → with_command said c ≡ Ok after → Lays said after line
 unfolding with_command
 command-lays said after c line here spelled same =
-    let room = guard_ok (nat_le 16384 said.commands) _ _ after same in
+    let room = guard_ok (nat_le COMMANDS said.commands) _ _ after same in
     let begun = guard_ok (nat_eq (length said.sessions) 0) _ _ after room.1 in
     let next : Progress = record said { sessions = onto_last said.sessions c; commands = said.commands + 1 } in
     let is : next ≡ after = okay-same next after begun.1 in
@@ -372,7 +207,7 @@ put-lays said after left here few same =
     let second = body_spells key.0.1 body.0 body.1.0 in
     let none : length body.0.1 ≡ 0 = omega (arith, ap (λ (ws : List (List ℕ)). length ws) first, ap (λ (ws : List (List ℕ)). length ws) second, few) in
     let whole : left ≡ key.0.0 ∷ (61 ∷ body.0.0) ∷ []
-    = first ∙ ap (λ (ws : List (List ℕ)). key.0.0 ∷ ws) (second ∙ ap (λ (ws : List (List ℕ)). (61 ∷ body.0.0) ∷ ws) (none_left body.0.1 none)) in
+    = first ∙ ap (λ (ws : List (List ℕ)). key.0.0 ∷ ws) (second ∙ ap (λ (ws : List (List ℕ)). (61 ∷ body.0.0) ∷ ws) (nil_from_length body.0.1 none)) in
     command-lays said after (command.Put key.0.0 body.0.0) (codes "put" ∷ left) here (ap (λ (ws : List (List ℕ)). codes "put" ∷ ws) whole) body.1.1
 
 get-lays : (said after : Progress) (left : List (List ℕ)) → said.section ≡ section.Sessions → length left ≤ 1 → get_line said left ≡ Ok after → Lays said after (codes "get" ∷ left)
@@ -381,7 +216,7 @@ get-lays said after left here few same =
     let key = bind_ok (name_at left) _ after same in
     let first = name_spells left key.0 key.1.0 in
     let none : length key.0.1 ≡ 0 = omega (arith, ap (λ (ws : List (List ℕ)). length ws) first, few) in
-    let whole : left ≡ key.0.0 ∷ [] = first ∙ ap (λ (ws : List (List ℕ)). key.0.0 ∷ ws) (none_left key.0.1 none) in
+    let whole : left ≡ key.0.0 ∷ [] = first ∙ ap (λ (ws : List (List ℕ)). key.0.0 ∷ ws) (nil_from_length key.0.1 none) in
     command-lays said after (command.Get key.0.0) (codes "get" ∷ left) here (ap (λ (ws : List (List ℕ)). codes "get" ∷ ws) whole) key.1.1
 
 tx-lays : (said after : Progress) (left : List (List ℕ)) → said.section ≡ section.Sessions → tx_line said left ≡ Ok after → Lays said after (codes "tx" ∷ left)
@@ -393,18 +228,18 @@ tx-lays said after left here same =
 read-lays : (said after : Progress) (left : List (List ℕ)) → said.section ≡ section.Sessions → length left ≤ 1 → read_line said left ≡ Ok after → Lays said after (codes "read" ∷ left)
 unfolding read_line
 read-lays said after left here few same =
-    let lid = bind_ok (number_at 1 4294967295 left) _ after same in
-    let alone = one_number 1 4294967295 left lid.0 (lit< tt) few lid.1.0 in
+    let lid = bind_ok (number_at 1 greatest_number left) _ after same in
+    let alone = one_number 1 greatest_number left lid.0 (lit< tt) few lid.1.0 in
     command-lays said after (command.Read lid.0.0) (codes "read" ∷ left) here (ap (λ (ws : List (List ℕ)). codes "read" ∷ ws) alone) lid.1.1
 
 last-lays : (said after : Progress) (left : List (List ℕ)) → said.section ≡ section.Sessions → length left ≤ 2 → last_line said left ≡ Ok after → Lays said after (codes "last" ∷ left)
 unfolding last_line
 last-lays said after left here few same =
     let tag = bind_ok (name_at left) _ after same in
-    let count = bind_ok (number_at 1 64 tag.0.1) _ after tag.1.1 in
+    let count = bind_ok (number_at 1 LAST_RECORDS tag.0.1) _ after tag.1.1 in
     let first = name_spells left tag.0 tag.1.0 in
     let fewer : length tag.0.1 ≤ 1 = omega (arith, ap (λ (ws : List (List ℕ)). length ws) first, few) in
-    let alone = one_number 1 64 tag.0.1 count.0 (lit< tt) fewer count.1.0 in
+    let alone = one_number 1 LAST_RECORDS tag.0.1 count.0 (lit< tt) fewer count.1.0 in
     let whole : left ≡ tag.0.0 ∷ decimal count.0.0 ∷ [] = first ∙ ap (λ (ws : List (List ℕ)). tag.0.0 ∷ ws) alone in
     command-lays said after (command.Last tag.0.0 count.0.0) (codes "last" ∷ left) here (ap (λ (ws : List (List ℕ)). codes "last" ∷ ws) whole) count.1.1
 
@@ -422,7 +257,7 @@ steps-lays : (said after : Progress) (left : List (List ℕ)) → (said.section 
     → Lays said after (codes "steps" ∷ left)
 steps-lays said after left here few idle same =
     let is : record said { section = section.Steps } ≡ after = okay-same (record said { section = section.Steps }) after same in
-    let alone = none_left left (omega arith) in
+    let alone = nil_from_length left (omega arith) in
     let all : List (List (List ℕ)) = before_steps said.dcs said.round said.stages said.sessions in
     let made : Lays said (record said { section = section.Steps }) (codes "steps" ∷ left) = record {
       laid = tt;
@@ -453,7 +288,7 @@ end-lays : (said after : Progress) (left : List (List ℕ)) → said.section ≡
     → Lays said after (codes "end" ∷ left)
 end-lays said after left here few same =
     let is : record said { section = section.Ended } ≡ after = okay-same (record said { section = section.Ended }) after same in
-    let alone = none_left left (omega arith) in
+    let alone = nil_from_length left (omega arith) in
     let all : List (List (List ℕ)) = before_steps said.dcs said.round said.stages said.sessions in
     let before : so_far_at said.section said ≡ all ++ steps_words ∷ map turn_words said.steps = ap (λ (s : Section). so_far_at s said) here in
     let made : Lays said (record said { section = section.Ended }) (codes "end" ∷ left) = record {
@@ -484,10 +319,10 @@ keyword-lays said after first (Some keyword) left spelled laid sound same =
     let place = guard_ok (not (stands keyword said.section)) _ _ after same in
     let built = guard_ok (not (is_built keyword)) _ _ after place.1 in
     let count = guard_ok (nat_lt (length left) (least_words keyword) || nat_lt (most_words keyword) (length left)) _ _ after built.1 in
-    let most = or_false (nat_lt (length left) (least_words keyword)) (nat_lt (most_words keyword) (length left)) count.0 in
+    let most = or_parts (nat_lt (length left) (least_words keyword)) (nat_lt (most_words keyword) (length left)) count.0 in
     let few : length left ≤ most_words keyword = grind (arith, nat_tests, most.1) in
     subst (λ (word : List ℕ). Lays said after (word ∷ left)) (sym (keyword_text first keyword spelled))
-    (meaning-lays said after keyword left (not_false (stands keyword said.section) place.0) few laid sound count.1)
+    (meaning-lays said after keyword left (not-false (stands keyword said.section) place.0) few laid sound count.1)
 
 words-lay : (said after : Progress) (line : List (List ℕ)) → laid_at said.section said → IsSound said → words_after said line ≡ Ok after → Lays said after line
 unfolding words_after
@@ -518,13 +353,9 @@ joined : (over : Bool) (line : List (List ℕ)) (more : List (List (List ℕ))) 
 joined true line more = refl
 joined false line more = refl
 
--- a line of bytes that lines may have
-abbrev pub IsLine : List ℕ → Type 0
-IsLine line = list_all is_line_byte line ≡ true
-
 line_bytes : (said after : Progress) (line : List ℕ) → line_after said line ≡ Ok after → IsLine line
 unfolding line_after
-line_bytes said after line same = not_false (list_all is_line_byte line) (guard_ok (not (list_all is_line_byte line)) _ _ after same).0
+line_bytes said after line same = not-false (list_all is_line_byte line) (guard_ok (not (list_all is_line_byte line)) _ _ after same).0
 
 -- what is said at the end, and what its lines write
 pub record Ends (said : Progress) (left : List (List ℕ)) (script : Script) : Type 0 where

@@ -1,4 +1,4 @@
--- Lemmas on what lines say.
+-- What a line says, where the calls that read its words have answered.
 use Rattle.std.proofs.Common.{◌≡◌, ◌<◌, ◌+◌, List, [], ◌∷◌, ◌++◌, length, length-append, refl, ap, sym, ◌∙◌, arith, false, nat_eq, ℕ, ap₂}
 use Rattle.std.specs.Prelude.{nat_le, Ok}
 use Rattle.std.proofs.lemmas.Bool.Decides.{nat_tests}
@@ -14,6 +14,7 @@ use Rattle.script_text.specs.Keywords.{turn_arguments}
 use Rattle.script_text.specs.Reading.{number_at, body_at, name_at, names_in}
 use Rattle.script_text.specs.Arguments.{no_arguments, arguments_at, step_said}
 use Rattle.script_text.specs.Meaning.{onto_last, with_command, append_line, put_line, get_line, last_line, with_step, turn_line}
+use Rattle.cz_base.specs.declared.limits.TheConstants.{COMMANDS, LAST_RECORDS}
 
 -- a command goes to the session that stands last
 pub onto_last-last : (plans : List SessionPlan) (plan : SessionPlan) (command : Command)
@@ -23,16 +24,16 @@ onto_last-last (first ∷ []) plan command = refl
 onto_last-last (first ∷ next ∷ more) plan command = ap (λ plans. first ∷ plans) (onto_last-last (next ∷ more) plan command)
 
 -- a command is put where a session has begun and there is room
-pub with_command-last : (said : Progress) (command : Command) (front : List SessionPlan) (last : SessionPlan) → said.sessions ≡ front ++ last ∷ [] → said.commands < 16384
+pub with_command-last : (said : Progress) (command : Command) (front : List SessionPlan) (last : SessionPlan) → said.sessions ≡ front ++ last ∷ [] → said.commands < COMMANDS
     → with_command said command ≡ Ok (record said { sessions = front ++ record { home = last.home; commands = last.commands ++ command ∷ [] } ∷ []; commands = said.commands + 1 })
 unfolding with_command
 with_command-last said command front last is few =
-    let room : nat_le 16384 said.commands ≡ false = grind (arith, nat_tests) in
+    let room : nat_le COMMANDS said.commands ≡ false = grind (arith, nat_tests) in
     let begun : nat_eq (length said.sessions) 0 ≡ false = grind (arith, nat_tests, ap (λ (plans : List SessionPlan). length plans) is, length-append front (last ∷ [])) in
     rw (room, begun) (ap (λ plans. Ok (record said { sessions = plans; commands = said.commands + 1 })) (ap (λ plans. onto_last plans command) is ∙ onto_last-last front last command))
 
 pub with_command-pushed : (said : Progress) (command : Command) (front : List SessionPlan) (plan : SessionPlan) (commands : List Command) (sessions : List SessionPlan)
-    → said.sessions ≡ front ++ plan ∷ [] → said.commands < 16384 → commands ≡ plan.commands ++ command ∷ [] → sessions ≡ front ++ record { home = plan.home; commands = commands } ∷ []
+    → said.sessions ≡ front ++ plan ∷ [] → said.commands < COMMANDS → commands ≡ plan.commands ++ command ∷ [] → sessions ≡ front ++ record { home = plan.home; commands = commands } ∷ []
     → with_command said command ≡ Ok (record said { sessions = sessions; commands = said.commands + 1 })
 with_command-pushed said command front plan commands sessions is few more all =
     with_command-last said command front plan is few
@@ -52,7 +53,7 @@ pub get_line-read : (said : Progress) (left : List (List ℕ)) (key : List ℕ) 
 unfolding get_line
 get_line-read said left key more named = rw named refl
 
-pub last_line-read : (said : Progress) (left : List (List ℕ)) (tag : List ℕ) (n : ℕ) (more rest : List (List ℕ)) → name_at left ≡ Ok (tag, more) → number_at 1 64 more ≡ Ok (n, rest)
+pub last_line-read : (said : Progress) (left : List (List ℕ)) (tag : List ℕ) (n : ℕ) (more rest : List (List ℕ)) → name_at left ≡ Ok (tag, more) → number_at 1 LAST_RECORDS more ≡ Ok (n, rest)
     → last_line said left ≡ with_command said (Last tag n)
 unfolding last_line
 last_line-read said left tag n more rest named counted = rw (named, counted) refl

@@ -1,5 +1,7 @@
 -- A word that was read is what is written for its value.
-use Rattle.std.proofs.Common.{◌≡◌, ◌<◌, ◌≤◌, ◌+◌, ◌-◌, ◌^◌, ℕ, List, [], ◌∷◌, length, refl, ap, sym, subst, ◌∙◌, arith, Bool, true, false, not, ◌&&◌, ◌||◌, nat_eq, ◌⊎◌, inl, inr, lit<, rules}
+-- By the tests of `Reading`; that of a number by its digits, of which the first is not 0.
+-- The theorems are those whose names end in `spells` or `spell`.
+use Rattle.std.proofs.Common.{◌≡◌, ◌<◌, ◌≤◌, ◌+◌, ◌-◌, ◌^◌, ℕ, List, [], ◌∷◌, length, ap, sym, subst, ◌∙◌, arith, true, false, not, ◌&&◌, ◌||◌, nat_eq, inl, inr, lit<, rules}
 use Rattle.std.specs.Prelude.{◌≢◌, nat_le, nat_lt, Ok, is_none, drop, slice_index}
 use Rattle.std.specs.List.{list_all}
 use Rattle.std.specs.Fmt.{decimal}
@@ -8,11 +10,12 @@ use Rattle.std.proofs.lemmas.Str.Parse.{IsNumeralModel, IsDigitsTest, numerals_b
 use Rattle.std.proofs.lemmas.Fmt.{decimal-digits_value}
 use Rattle.cz_base.specs.Text.{first_bad, is_body_byte}
 use Rattle.script_text.specs.Words.{is_digit, is_number, number_of, is_datacentre, is_name, is_body}
-use Rattle.script_text.specs.Reading.{number_in, number_at, number_below_at, datacentre_at, other_datacentre_at, body_in, body_at, name_in, name_at, names_in}
+use Rattle.script_text.specs.Reading.{number_in, number_at, number_below_at, datacentre_at, other_datacentre_at, body_in, body_at, name_in, name_at, names_in, greatest_number}
 use Rattle.script_text.specs.Spelled.{letter}
-use Rattle.script_text.proofs.Going.{okay-same, bind_ok, guard_ok, pass_ok, and_both}
-
--- Words.
+use Rattle.std.proofs.lemmas.Bool.{and_parts, or_cases}
+use Rattle.std.proofs.lemmas.List.{nil_from_length}
+use Rattle.cz_base.specs.declared.limits.TheConstants.{DATACENTRES, BODY_BYTES}
+use Rattle.script_text.proofs.Going.{okay-same, bind_ok, guard_ok, pass_ok}
 
 digits_test : IsDigitsTest (λ ds. list_all is_digit ds ≡ true)
 digits_test = search rules
@@ -27,13 +30,9 @@ le_one n h = grind (arith, nat_tests)
 not_48 : (b : ℕ) → not (nat_eq b 48) ≡ true → b ≡ 48 → ⊥
 not_48 b h is = grind (arith, nat_tests)
 
-or_true : (a b : Bool) → (a || b) ≡ true → (a ≡ true) ⊎ (b ≡ true)
-or_true true b h = inl refl
-or_true false b h = inr h
-
 lone_zero : (n b : ℕ) → (nat_le n 1 || not (nat_eq b 48)) ≡ true → 1 ≤ n → b ≡ 48 → n ≡ 1
 lone_zero n b test some is =
-    elim (or_true (nat_le n 1) (not (nat_eq b 48)) test) [
+    elim (or_cases (nat_le n 1) (not (nat_eq b 48)) test) [
       | inl few ↦ omega (arith, le_one n few)
       | inr other ↦ absurd (not_48 b other is)
     ]
@@ -41,9 +40,9 @@ lone_zero n b test some is =
 -- a number word is what is written for its number
 number_word : (word : List ℕ) → is_number word ≡ true → number_of word < 2 ^ 64 → decimal (number_of word) ≡ word
 number_word word form small =
-    let last = and_both (list_all is_digit word && nat_le 1 (length word) && nat_le (length word) 10) (nat_le (length word) 1 || not (nat_eq (slice_index word 0) 48)) form in
-    let third = and_both (list_all is_digit word && nat_le 1 (length word)) (nat_le (length word) 10) last.0 in
-    let second = and_both (list_all is_digit word) (nat_le 1 (length word)) third.0 in
+    let last = and_parts (list_all is_digit word && nat_le 1 (length word) && nat_le (length word) 10) (nat_le (length word) 1 || not (nat_eq (slice_index word 0) 48)) form in
+    let third = and_parts (list_all is_digit word && nat_le 1 (length word)) (nat_le (length word) 10) last.0 in
+    let second = and_parts (list_all is_digit word) (nat_le 1 (length word)) third.0 in
     let some : 1 ≤ length word = grind (arith, nat_tests, second.1) in
     let lone : slice_index word 0 ≡ 48 → length word ≡ 1 = λ h. lone_zero (length word) (slice_index word 0) last.1 some h in
     decimal-digits_value own word second.0 (omega arith) lone small
@@ -60,7 +59,7 @@ number_spells least most (word ∷ more) x fits same =
     let bound = bind_ok (number_in least most word) (λ n. Ok (n, more)) x same in
     let form = pass_ok (is_number word) _ _ bound.0 bound.1.0 in
     let range = pass_ok (nat_le least (number_of word) && nat_le (number_of word) most) _ _ bound.0 form.1 in
-    let both = and_both (nat_le least (number_of word)) (nat_le (number_of word) most) range.0 in
+    let both = and_parts (nat_le least (number_of word)) (nat_le (number_of word) most) range.0 in
     let value : number_of word ≡ bound.0 = okay-same (number_of word) bound.0 range.1 in
     let pair : (bound.0, more) ≡ x = okay-same (bound.0, more) x bound.1.1 in
     let low : least ≤ number_of word = grind (arith, nat_tests, both.0) in
@@ -76,8 +75,8 @@ number_spells least most (word ∷ more) x fits same =
 letter_word : (dcs : ℕ) (word : List ℕ) → is_datacentre dcs word ≡ true → word ≡ letter (slice_index word 0 - 65)
 letter_word dcs [] h = cc
 letter_word dcs (b ∷ []) h =
-    let both = and_both (nat_le 65 b && nat_lt b (65 + dcs)) (nat_lt b 73) h in
-    let first = and_both (nat_le 65 b) (nat_lt b (65 + dcs)) both.0 in
+    let both = and_parts (nat_le 65 b && nat_lt b (65 + dcs)) (nat_lt b (65 + DATACENTRES)) h in
+    let first = and_parts (nat_le 65 b) (nat_lt b (65 + dcs)) both.0 in
     let low : 65 ≤ b = grind (arith, nat_tests, first.0) in
     let same : b ≡ 65 + (b - 65) = omega (arith, low) in
     ap (λ (n : ℕ). n ∷ []) same
@@ -94,8 +93,8 @@ datacentre_spells dcs (word ∷ more) x same =
 datacentre_below : (dcs : ℕ) (word : List ℕ) → is_datacentre dcs word ≡ true → slice_index word 0 - 65 < dcs
 datacentre_below dcs [] h = cc
 datacentre_below dcs (letter ∷ []) h =
-    let both = and_both (nat_le 65 letter && nat_lt letter (65 + dcs)) (nat_lt letter 73) h in
-    let first = and_both (nat_le 65 letter) (nat_lt letter (65 + dcs)) both.0 in
+    let both = and_parts (nat_le 65 letter && nat_lt letter (65 + dcs)) (nat_lt letter (65 + DATACENTRES)) h in
+    let first = and_parts (nat_le 65 letter) (nat_lt letter (65 + dcs)) both.0 in
     grind (arith, nat_tests, first.0, first.1)
 datacentre_below dcs (letter ∷ next ∷ more) h = cc
 
@@ -111,8 +110,8 @@ datacentre_takes dcs (word ∷ more) x same =
 body_word : (word : List ℕ) → is_body word ≡ true → word ≡ 61 ∷ drop 1 word
 body_word [] h = cc
 body_word (sign ∷ bytes) h =
-    let both = and_both ((nat_eq sign 61) && nat_le (length bytes) 1024) (is_none (first_bad is_body_byte bytes)) h in
-    let first = and_both (nat_eq sign 61) (nat_le (length bytes) 1024) both.0 in
+    let both = and_parts ((nat_eq sign 61) && nat_le (length bytes) BODY_BYTES) (is_none (first_bad is_body_byte bytes)) h in
+    let first = and_parts (nat_eq sign 61) (nat_le (length bytes) BODY_BYTES) both.0 in
     let same : sign ≡ 61 = grind (arith, nat_tests, first.0) in
     ap (λ (s : ℕ). s ∷ bytes) same
 
@@ -143,25 +142,21 @@ names_spell left tags same =
     let form = pass_ok (list_all is_name left) _ _ tags same in
     okay-same left tags form.1
 
-pub none_left : (left : List (List ℕ)) → length left ≡ 0 → left ≡ []
-none_left [] none = refl
-none_left (word ∷ more) none = absurd (omega arith)
-
 -- a line of one number behind its first word
 pub one_number : (least most : ℕ) (left : List (List ℕ)) (x : ℕ × List (List ℕ)) → most < 2 ^ 64 → length left ≤ 1 → number_at least most left ≡ Ok x → left ≡ decimal x.0 ∷ []
 one_number least most left x fits few same =
     let n = number_spells least most left x fits same in
     let none : length x.1 ≡ 0 = omega (arith, ap (λ (ws : List (List ℕ)). length ws) n.word) in
-    n.word ∙ ap (λ (ws : List (List ℕ)). decimal x.0 ∷ ws) (none_left x.1 none)
+    n.word ∙ ap (λ (ws : List (List ℕ)). decimal x.0 ∷ ws) (nil_from_length x.1 none)
 
 -- a number below a limit
 pub below_spells : (limit : ℕ) (left : List (List ℕ)) (x : ℕ × List (List ℕ)) → number_below_at limit left ≡ Ok x → (left ≡ decimal x.0 ∷ x.1) × (x.0 < limit)
 unfolding number_below_at
 below_spells limit left x same =
-    let read = bind_ok (number_at 0 4294967295 left) _ x same in
+    let read = bind_ok (number_at 0 greatest_number left) _ x same in
     let test = pass_ok (nat_lt read.0.0 limit) _ _ x read.1.1 in
     let is : read.0 ≡ x = okay-same read.0 x test.1 in
-    let n = number_spells 0 4294967295 left read.0 (lit< tt) read.1.0 in
+    let n = number_spells 0 greatest_number left read.0 (lit< tt) read.1.0 in
     let small : read.0.0 < limit = grind (arith, nat_tests, test.0) in
     subst (λ (p : ℕ × List (List ℕ)). (left ≡ decimal p.0 ∷ p.1) × (p.0 < limit)) is (n.word, small)
 

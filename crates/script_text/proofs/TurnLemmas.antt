@@ -1,12 +1,12 @@
--- The words of a step line, by the table of arguments.
-use Rattle.std.proofs.Common.{◌≡◌, ◌<◌, ◌≤◌, ℕ, List, [], ◌∷◌, ◌++◌, length, refl, ap, sym, subst, ◌∙◌, arith}
+-- The words of a step line, by the table of arguments: a line that is read writes the step that it says.
+-- By induction on the kinds of arguments that its word has, and by cases on the word.
+-- The theorem is `turn_takes`.
+use Rattle.std.proofs.Common.{◌≡◌, ◌<◌, ◌≤◌, ℕ, List, [], ◌∷◌, ◌++◌, length, refl, ap, sym, subst, ◌∙◌, arith, lit<}
 use Rattle.std.specs.Prelude.{◌≢◌, nat_le, Ok, codes}
 use Rattle.std.specs.Fmt.{decimal}
 use Rattle.std.proofs.lemmas.Bool.Decides.{nat_tests}
-use Rattle.std.proofs.Common.{lit<}
 use Rattle.abstract_log.specs.declared.command.Workload.{Workload}
 use Rattle.abstract_log.specs.declared.script.Step.{Step}
-use Rattle.abstract_log.specs.declared.script.Step.TheVariants as step
 use Rattle.script_text.specs.declared.keyword.TurnWord.{TurnWord}
 use Rattle.script_text.specs.declared.keyword.TurnWord.TheVariants.{Client, Flush, Pass, Stamp, Token, Place, Gossip, Post, Learn, Send, Deliver, Lose, Copy, Floor, Collect, Announce, Mark, AddMaintainer, AddBatcher, AddQueue, AddSender, AddReceiver}
 use Rattle.script_text.specs.declared.arguments.Argument.{Argument}
@@ -14,13 +14,16 @@ use Rattle.script_text.specs.declared.arguments.Argument.TheVariants.{Datacentre
 use Rattle.script_text.specs.declared.arguments.Arguments.{Arguments}
 use Rattle.script_text.specs.declared.progress.Progress.{Progress}
 use Rattle.script_text.specs.Keywords.{turn_text, turn_arguments}
-use Rattle.script_text.specs.Reading.{number_at, number_below_at, datacentre_at, other_datacentre_at}
+use Rattle.script_text.specs.Reading.{number_at, number_below_at, datacentre_at, other_datacentre_at, greatest_number}
 use Rattle.script_text.specs.Arguments.{no_arguments, argument_at, arguments_at, step_said}
 use Rattle.script_text.specs.Meaning.{with_step, turn_line}
-use Rattle.script_text.specs.Spelled.{letter, turn_words, IsBuiltStep}
-use Rattle.script_text.specs.Steps.{IsPosition, FitsStep}
+use Rattle.script_text.specs.Spelled.{letter, turn_words}
+use Rattle.abstract_log.specs.Turns.{FitsStep, IsBuiltStep, IsMember, IsPacket, IsPosition}
+use Rattle.std.proofs.lemmas.List.{nil_from_length}
+use Rattle.cz_base.specs.declared.limits.TheConstants.{MEMBERS, STEPS, PACKETS}
+use Rattle.abstract_log.specs.declared.script.Step.TheVariants as step
 use Rattle.script_text.proofs.Going.{okay, okay-same, bind_ok, guard_ok}
-use Rattle.script_text.proofs.Spelling.{number_spells, below_spells, datacentre_spells, datacentre_takes, other_spells, none_left}
+use Rattle.script_text.proofs.Spelling.{number_spells, datacentre_spells, datacentre_takes, below_spells, other_spells}
 
 -- how an argument is written
 abbrev pub argument_word : Argument → ℕ → List ℕ
@@ -37,9 +40,9 @@ abbrev pub IsArgument : ℕ → ℕ → Arguments → Argument → ℕ → Type 
 IsArgument dcs sessions given Datacentre n = n < dcs
 IsArgument dcs sessions given Other n = (n < dcs) × (given.dc ≢ n)
 IsArgument dcs sessions given Session n = n < sessions
-IsArgument dcs sessions given Member n = n < 16
-IsArgument dcs sessions given Second n = n < 16
-IsArgument dcs sessions given Packet n = (1 ≤ n) × (n ≤ 64)
+IsArgument dcs sessions given Member n = IsMember n
+IsArgument dcs sessions given Second n = IsMember n
+IsArgument dcs sessions given Packet n = IsPacket n
 IsArgument dcs sessions given Position n = IsPosition n
 
 abbrev pub with_argument : Arguments → Argument → ℕ → Arguments
@@ -91,29 +94,29 @@ argument_spells dcs sessions given Session left x same =
     let made : SpellsArgument dcs sessions given Session left next = record { n = read.0.0; word = spelt.0; range = spelt.1; gives = refl } in
     subst (λ (p : Read). SpellsArgument dcs sessions given Session left p) pair made
 argument_spells dcs sessions given Member left x same =
-    let read = bind_ok (number_below_at 16 left) _ x same in
-    let spelt = below_spells 16 left read.0 read.1.0 in
+    let read = bind_ok (number_below_at MEMBERS left) _ x same in
+    let spelt = below_spells MEMBERS left read.0 read.1.0 in
     let next : Read = (with_argument given Member read.0.0, read.0.1) in
     let pair : next ≡ x = okay-same next x read.1.1 in
     let made : SpellsArgument dcs sessions given Member left next = record { n = read.0.0; word = spelt.0; range = spelt.1; gives = refl } in
     subst (λ (p : Read). SpellsArgument dcs sessions given Member left p) pair made
 argument_spells dcs sessions given Second left x same =
-    let read = bind_ok (number_below_at 16 left) _ x same in
-    let spelt = below_spells 16 left read.0 read.1.0 in
+    let read = bind_ok (number_below_at MEMBERS left) _ x same in
+    let spelt = below_spells MEMBERS left read.0 read.1.0 in
     let next : Read = (with_argument given Second read.0.0, read.0.1) in
     let pair : next ≡ x = okay-same next x read.1.1 in
     let made : SpellsArgument dcs sessions given Second left next = record { n = read.0.0; word = spelt.0; range = spelt.1; gives = refl } in
     subst (λ (p : Read). SpellsArgument dcs sessions given Second left p) pair made
 argument_spells dcs sessions given Packet left x same =
-    let read = bind_ok (number_at 1 64 left) _ x same in
-    let spelt = number_spells 1 64 left read.0 (lit< tt) read.1.0 in
+    let read = bind_ok (number_at 1 PACKETS left) _ x same in
+    let spelt = number_spells 1 PACKETS left read.0 (lit< tt) read.1.0 in
     let next : Read = (with_argument given Packet read.0.0, read.0.1) in
     let pair : next ≡ x = okay-same next x read.1.1 in
     let made : SpellsArgument dcs sessions given Packet left next = record { n = read.0.0; word = spelt.word; range = (spelt.low, spelt.high); gives = refl } in
     subst (λ (p : Read). SpellsArgument dcs sessions given Packet left p) pair made
 argument_spells dcs sessions given Position left x same =
-    let read = bind_ok (number_at 1 4294967295 left) _ x same in
-    let spelt = number_spells 1 4294967295 left read.0 (lit< tt) read.1.0 in
+    let read = bind_ok (number_at 1 greatest_number left) _ x same in
+    let spelt = number_spells 1 greatest_number left read.0 (lit< tt) read.1.0 in
     let next : Read = (with_argument given Position read.0.0, read.0.1) in
     let pair : next ≡ x = okay-same next x read.1.1 in
     let made : SpellsArgument dcs sessions given Position left next = record { n = read.0.0; word = spelt.word; range = (spelt.low, omega (arith, spelt.high)); gives = refl } in
@@ -122,7 +125,7 @@ argument_spells dcs sessions given Position left x same =
 -- words that are read as arguments write them
 arguments_spell : (dcs sessions : ℕ) (given : Arguments) (kinds : List Argument) (left : List (List ℕ)) (after : Arguments) → length left ≤ length kinds → arguments_at dcs sessions given kinds left ≡ Ok after
     → Write dcs sessions given kinds left after
-arguments_spell dcs sessions given [] left after few same = (none_left left (omega (arith, few)), okay-same given after same)
+arguments_spell dcs sessions given [] left after few same = (nil_from_length left (omega (arith, few)), okay-same given after same)
 arguments_spell dcs sessions given (kind ∷ kinds) left after few same =
     let read = bind_ok (argument_at dcs sessions given kind left) (λ r. arguments_at dcs sessions r.0 kinds r.1) after same in
     let one = argument_spells dcs sessions given kind left read.0 read.1.0 in
@@ -142,7 +145,7 @@ turn_says load Client left given t w same =
     let end = w.1.1.1.1 in
     let said : okay (step.Client w.0) ≡ okay t = subst (λ (g : Arguments). step_said Client g ≡ okay t) (sym end.1) same in
     let words : left ≡ decimal w.0 ∷ [] = w.1.1.0 ∙ ap (λ (ws : List (List ℕ)). decimal w.0 ∷ ws) end.0 in
-    subst (λ (s : Step). IsTurn load Client left s) (okay-same (step.Client w.0) t said) (record { words = ap (λ (ws : List (List ℕ)). codes "client" ∷ ws) words; fits = w.1.1.1.0; built = tt })
+    subst (λ (s : Step). IsTurn load Client left s) (okay-same (step.Client w.0) t said) (record { words = ap (λ (ws : List (List ℕ)). codes "client" ∷ ws) words; fits = (w.1.1.1.0, tt); built = tt })
 turn_says load Flush left given t w same =
     let two = w.1.1.1.1 in
     let end = two.1.1.1.1 in
@@ -166,7 +169,7 @@ turn_says load Token left given t w same =
     let end = w.1.1.1.1 in
     let said : okay (step.Token w.0) ≡ okay t = subst (λ (g : Arguments). step_said Token g ≡ okay t) (sym end.1) same in
     let words : left ≡ letter w.0 ∷ [] = w.1.1.0 ∙ ap (λ (ws : List (List ℕ)). letter w.0 ∷ ws) end.0 in
-    subst (λ (s : Step). IsTurn load Token left s) (okay-same (step.Token w.0) t said) (record { words = ap (λ (ws : List (List ℕ)). codes "token" ∷ ws) words; fits = w.1.1.1.0; built = tt })
+    subst (λ (s : Step). IsTurn load Token left s) (okay-same (step.Token w.0) t said) (record { words = ap (λ (ws : List (List ℕ)). codes "token" ∷ ws) words; fits = (w.1.1.1.0, tt); built = tt })
 turn_says load Place left given t w same =
     let two = w.1.1.1.1 in
     let three = two.1.1.1.1 in
@@ -192,7 +195,7 @@ turn_says load Learn left given t w same =
     let end = w.1.1.1.1 in
     let said : okay (step.Learn w.0) ≡ okay t = subst (λ (g : Arguments). step_said Learn g ≡ okay t) (sym end.1) same in
     let words : left ≡ letter w.0 ∷ [] = w.1.1.0 ∙ ap (λ (ws : List (List ℕ)). letter w.0 ∷ ws) end.0 in
-    subst (λ (s : Step). IsTurn load Learn left s) (okay-same (step.Learn w.0) t said) (record { words = ap (λ (ws : List (List ℕ)). codes "learn" ∷ ws) words; fits = w.1.1.1.0; built = tt })
+    subst (λ (s : Step). IsTurn load Learn left s) (okay-same (step.Learn w.0) t said) (record { words = ap (λ (ws : List (List ℕ)). codes "learn" ∷ ws) words; fits = (w.1.1.1.0, tt); built = tt })
 turn_says load Send left given t w same =
     let two = w.1.1.1.1 in
     let three = two.1.1.1.1 in
@@ -252,7 +255,7 @@ and_step said t = record said { steps = said.steps ++ t ∷ [] }
 pub record TakesTurn (said after : Progress) (word : TurnWord) (left : List (List ℕ)) : Type 0 where
   pub step : Step
   pub turn : IsTurn (load_of said) word left step
-  pub room : length said.steps < 65536
+  pub room : length said.steps < STEPS
   pub is : and_step said step ≡ after
 
 pub turn_takes : (said after : Progress) (word : TurnWord) (left : List (List ℕ)) → length left ≤ length (turn_arguments word) → turn_line said word left ≡ Ok after → TakesTurn said after word left
@@ -260,8 +263,8 @@ unfolding turn_line with_step
 turn_takes said after word left few same =
     let given = bind_ok (arguments_at said.dcs (length said.sessions) no_arguments (turn_arguments word) left) _ after same in
     let says = bind_ok (step_said word given.0) _ after given.1.1 in
-    let room = guard_ok (nat_le 65536 (length said.steps)) _ _ after says.1.1 in
-    let fewer : length said.steps < 65536 = grind (arith, nat_tests, room.0) in
+    let room = guard_ok (nat_le STEPS (length said.steps)) _ _ after says.1.1 in
+    let fewer : length said.steps < STEPS = grind (arith, nat_tests, room.0) in
     record {
       step = says.0;
       turn = turn_says (load_of said) word left given.0 says.0 (arguments_spell said.dcs (length said.sessions) no_arguments (turn_arguments word) left given.0 few given.1.0) says.1.0;

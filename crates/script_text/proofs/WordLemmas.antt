@@ -6,7 +6,7 @@ use Rattle.std.specs.Char.{digit_value}
 use Rattle.std.specs.Str.Parse.{digits_value_after}
 use Rattle.std.specs.Prelude.{Some, None, nat_lt, nat_le, ◌==◌, is_none, Ok, Err}
 use Rattle.std.specs.List.{position_or_len, position, list_all, count_by}
-use Rattle.std.proofs.lemmas.Grind.{common_steps, pow_more}
+use Rattle.std.proofs.lemmas.Grind.{pow_more}
 use Rattle.std.proofs.lemmas.Bool.Decides.{nat_tests}
 use Rattle.std.proofs.lemmas.List.Splits.{slice_split_first, slice_split_none, length-slice_split}
 use Rattle.std.proofs.lemmas.List.Sums.{fails_before_first}
@@ -14,19 +14,16 @@ use Rattle.cz_base.specs.Text.{first_bad, is_name_byte, is_body_byte}
 use Rattle.script_text.specs.declared.fault.Cause.TheVariants.{BadName, BadBody}
 use Rattle.script_text.specs.Words.{words, words_left, is_blank, is_digit}
 use Rattle.script_text.specs.Reading.{name_in, body_in}
-
-chose-some : (test : Bool) (n at : ℕ) → cond test (Some n) None ≡ Some at → (test ≡ true) × (n ≡ at)
-chose-some true n at same = (refl, cc)
-chose-some false n at same = cc
-
-chose-none : (test : Bool) (n : ℕ) → cond test (Some n) None ≡ None → test ≡ false
-chose-none true n same = cc
-chose-none false n same = refl
+use Rattle.std.proofs.lemmas.Bool.{and_parts, and_right}
+use Rattle.std.proofs.lemmas.List.{take_all, length-drop}
+use Rattle.std.proofs.lemmas.Option.{cond_some}
+use Rattle.cz_base.specs.declared.limits.TheConstants.{NAME_BYTES, BODY_BYTES}
+use Rattle.script_text.proofs.LineLemmas.{chose-none}
 
 -- the first word ends at the first blank
 pub words-first : (line : List ℕ) (at : ℕ) → position is_blank line ≡ Some at → words line ≡ take at line ∷ words (drop (at + 1) line)
 words-first line at found =
-    let chosen = chose-some (nat_lt (position_or_len is_blank line) (length line)) (position_or_len is_blank line) at found in
+    let chosen = cond_some (nat_lt (position_or_len is_blank line) (length line)) (position_or_len is_blank line) at found in
     let within : position_or_len is_blank line < length line = grind (arith, nat_tests, chosen.0) in
     let cut = slice_split_first is_blank line 0 within in
     rw (← chosen.1) cut
@@ -38,14 +35,10 @@ words-one line none =
     let past : length line ≤ position_or_len is_blank line = grind (arith, nat_tests, chosen) in
     slice_split_none is_blank line (λ k d within. fails_before_first is_blank line k d (omega arith))
 
--- a line from some place on is the rest of the list
-rest_line : (line : List ℕ) (at : ℕ) → take (length line - at) (drop at line) ≡ drop at line
-rest_line line at = grind (arith, common_steps)
-
 pub words_left-first : (ended : Bool) (line : List ℕ) (at : ℕ) → ended ≡ false → position is_blank line ≡ Some at
     → words_left ended line ≡ take at line ∷ words_left ended (take (length line - (at + 1)) (drop (at + 1) line))
 words_left-first true line at going found = cc
-words_left-first false line at going found = rw rest_line (words-first line at found)
+words_left-first false line at going found = rw (take_all (length line - (at + 1)) (drop (at + 1) line) (omega (arith, length-drop (at + 1) line))) (words-first line at found)
 
 pub words_left-one : (ended : Bool) (line : List ℕ) → ended ≡ false → position is_blank line ≡ None → words_left ended line ≡ line ∷ []
 words_left-one true line going none = cc
@@ -56,34 +49,26 @@ pub length-words_left : (ended : Bool) (line : List ℕ) → ended ≡ false →
 length-words_left true line going = cc
 length-words_left false line going = length-slice_split is_blank line
 
-and-false : (b : Bool) → (b && false) ≡ false
-and-false true = refl
-and-false false = refl
-
 -- a word with a bad byte is no name, and no body
 pub name_in-bad : (word : List ℕ) (at : ℕ) → first_bad is_name_byte word ≡ Some at → name_in word ≡ Err BadName
 name_in-bad word at bad =
-    ap (λ place. cond (nat_le 1 (length word) && nat_le (length word) 64 && is_none place) (Ok word) (Err BadName)) bad
-    ∙ ap (λ test. cond test (Ok word) (Err BadName)) (and-false (nat_le 1 (length word) && nat_le (length word) 64))
+    ap (λ place. cond (nat_le 1 (length word) && nat_le (length word) NAME_BYTES && is_none place) (Ok word) (Err BadName)) bad
+    ∙ ap (λ test. cond test (Ok word) (Err BadName)) (and_right (nat_le 1 (length word) && nat_le (length word) NAME_BYTES) false refl)
 
 pub body_in-bad : (sign : ℕ) (bytes : List ℕ) (at : ℕ) → first_bad is_body_byte bytes ≡ Some at → body_in (sign ∷ bytes) ≡ Err BadBody
 body_in-bad sign bytes at bad =
-    ap (λ place. cond ((sign == 61) && nat_le (length bytes) 1024 && is_none place) (Ok bytes) (Err BadBody)) bad
-    ∙ ap (λ test. cond test (Ok bytes) (Err BadBody)) (and-false ((sign == 61) && nat_le (length bytes) 1024))
-
-and-true : (a b : Bool) → (a && b) ≡ true → (a ≡ true) × (b ≡ true)
-and-true true b same = (refl, same)
-and-true false b same = cc
+    ap (λ place. cond ((sign == 61) && nat_le (length bytes) BODY_BYTES && is_none place) (Ok bytes) (Err BadBody)) bad
+    ∙ ap (λ test. cond test (Ok bytes) (Err BadBody)) (and_right ((sign == 61) && nat_le (length bytes) BODY_BYTES) false refl)
 
 -- each byte of digits is a digit
 pub digit_at : (digits : List ℕ) (i : ℕ) → list_all is_digit digits ≡ true → i < length digits → (48 ≤ get_or digits i 0) × (get_or digits i 0 ≤ 57)
 digit_at [] i good within = absurd (omega arith)
 digit_at (d ∷ ds) zero good within =
-    let both = and-true (is_digit d) (list_all is_digit ds) good in
-    let range = and-true (nat_le 48 d) (nat_le d 57) both.0 in
+    let both = and_parts (is_digit d) (list_all is_digit ds) good in
+    let range = and_parts (nat_le 48 d) (nat_le d 57) both.0 in
     (grind (arith, nat_tests, range.0), grind (arith, nat_tests, range.1))
 digit_at (d ∷ ds) (suc i) good within =
-    let both = and-true (is_digit d) (list_all is_digit ds) good in
+    let both = and_parts (is_digit d) (list_all is_digit ds) good in
     digit_at ds i both.1 (omega arith)
 
 -- one more digit is read
@@ -104,4 +89,4 @@ small_more n i d small most = omega (arith, pow_more 10 i)
 
 pub body_in-bad_word : (word : List ℕ) (at : ℕ) → 1 ≤ length word → first_bad is_body_byte (take (length word - 1) (drop 1 word)) ≡ Some at → body_in word ≡ Err BadBody
 body_in-bad_word [] at some bad = absurd (omega arith)
-body_in-bad_word (sign ∷ bytes) at some bad = body_in-bad sign bytes at (ap (λ text. first_bad is_body_byte text) (sym (rest_line (sign ∷ bytes) 1)) ∙ bad)
+body_in-bad_word (sign ∷ bytes) at some bad = body_in-bad sign bytes at (ap (λ text. first_bad is_body_byte text) (sym (take_all (length (sign ∷ bytes) - 1) (drop 1 (sign ∷ bytes)) (omega (arith, length-drop 1 (sign ∷ bytes))))) ∙ bad)

@@ -1,5 +1,6 @@
 -- The words of a step line after the first, and the step that they give.
 use Rattle.std.specs.Prelude.{ℕ, List, [], ◌∷◌, Result, Ok, Err}
+use Rattle.cz_base.specs.declared.limits.TheConstants.{MEMBERS, PACKETS}
 use Rattle.abstract_log.specs.declared.script.Step.{Step}
 use Rattle.abstract_log.specs.declared.script.Step.TheVariants as step
 use Rattle.script_text.specs.declared.fault.Cause.{Cause}
@@ -9,7 +10,7 @@ use Rattle.script_text.specs.declared.keyword.TurnWord.TheVariants.{Client, Flus
 use Rattle.script_text.specs.declared.arguments.Argument.{Argument}
 use Rattle.script_text.specs.declared.arguments.Argument.TheVariants.{Datacentre, Other, Session, Member, Second, Packet, Position}
 use Rattle.script_text.specs.declared.arguments.Arguments.{Arguments}
-use Rattle.script_text.specs.Reading.{◌>>=◌, number_at, number_below_at, datacentre_at, other_datacentre_at}
+use Rattle.script_text.specs.Reading.{◌>>=◌, greatest_number, number_at, number_below_at, datacentre_at, other_datacentre_at}
 
 -- nothing has been given
 abbrev pub no_arguments : Arguments
@@ -27,16 +28,16 @@ argument_at dcs sessions given Session left = do
   n ← number_below_at sessions left
   Ok (record given { session = n.0 }, n.1)
 argument_at dcs sessions given Member left = do
-  n ← number_below_at 16 left
+  n ← number_below_at MEMBERS left
   Ok (record given { member = n.0 }, n.1)
 argument_at dcs sessions given Second left = do
-  n ← number_below_at 16 left
+  n ← number_below_at MEMBERS left
   Ok (record given { second = n.0 }, n.1)
 argument_at dcs sessions given Packet left = do
-  n ← number_at 1 64 left
+  n ← number_at 1 PACKETS left
   Ok (record given { packet = n.0 }, n.1)
 argument_at dcs sessions given Position left = do
-  n ← number_at 1 4294967295 left
+  n ← number_at 1 greatest_number left
   Ok (record given { position = n.0 }, n.1)
 
 -- the arguments of some kinds, from left to right

@@ -1,6 +1,7 @@
 -- The table of lines: the word that begins each, where it may stand, and how many words it has.
-use Rattle.std.specs.Prelude.{ℕ, ◌||◌, Bool, true, false, Option, List, [], ◌∷◌, length, codes, bytes_eq}
+use Rattle.std.specs.Prelude.{ℕ, ◌+◌, ◌||◌, Bool, true, false, Option, List, [], ◌∷◌, length, codes, bytes_eq}
 use Rattle.std.specs.List.{find}
+use Rattle.cz_base.specs.declared.limits.TheConstants.{TAGS, KEYS}
 use Rattle.script_text.specs.declared.section.Section.{Section}
 use Rattle.script_text.specs.declared.section.Section.TheVariants as section
 use Rattle.script_text.specs.declared.keyword.Keyword.{Keyword}
@@ -12,6 +13,7 @@ use Rattle.script_text.specs.declared.keyword.TurnWord.TheVariants.{Client, Flus
 use Rattle.script_text.specs.declared.arguments.Argument.{Argument}
 use Rattle.script_text.specs.declared.arguments.Argument.TheVariants as argument
 
+-- the first word of a command
 abbrev pub command_text : CommandWord → List ℕ
 command_text Append = codes "append"
 command_text Put = codes "put"
@@ -20,6 +22,7 @@ command_text Tx = codes "tx"
 command_text Read = codes "read"
 command_text Last = codes "last"
 
+-- the first word of a step line
 abbrev pub turn_text : TurnWord → List ℕ
 turn_text Client = codes "client"
 turn_text Flush = codes "flush"
@@ -56,6 +59,7 @@ text_of Steps = codes "steps"
 text_of (Turn word) = turn_text word
 text_of End = codes "end"
 
+-- all keywords
 abbrev pub keywords : List Keyword
 keywords = Chariots ∷ Datacentres ∷ Round ∷ Stages ∷ Session
     ∷ Command Append ∷ Command Put ∷ Command Get ∷ Command Tx ∷ Command Read ∷ Command Last ∷ Steps
@@ -180,13 +184,14 @@ least_command_words Read = 1
 least_command_words Last = 2
 
 abbrev pub most_command_words : CommandWord → ℕ
-most_command_words Append = 9
+most_command_words Append = TAGS + 1
 most_command_words Put = 2
 most_command_words Get = 1
-most_command_words Tx = 16
+most_command_words Tx = KEYS
 most_command_words Read = 1
 most_command_words Last = 2
 
+-- and of each line
 abbrev pub least_words : Keyword → ℕ
 least_words Chariots = 1
 least_words Datacentres = 1

@@ -1,6 +1,7 @@
 -- What each line of a script says, and which script lines spell.
 use Rattle.std.specs.Prelude.{ℕ, zero, suc, ◌+◌, ◌==◌, ◌||◌, Bool, true, not, min, nat_le, nat_lt, List, [], ◌∷◌, ◌++◌, length, if◌then◌else◌, Option, Some, None, Result, Ok, Err}
 use Rattle.std.specs.List.{list_all, list_any, find}
+use Rattle.cz_base.specs.declared.limits.TheConstants.{DATACENTRES, MEMBERS, SESSIONS, COMMANDS, STEPS, ROUND, LAST_RECORDS}
 use Rattle.abstract_log.specs.declared.command.Command.{Command as CommandOf}
 use Rattle.abstract_log.specs.declared.command.Command.TheVariants as command
 use Rattle.abstract_log.specs.declared.command.SessionPlan.{SessionPlan}
@@ -21,7 +22,7 @@ use Rattle.script_text.specs.declared.progress.Progress.{Progress}
 use Rattle.script_text.specs.declared.progress.Stages.{Stages as StagesOf}
 use Rattle.script_text.specs.Words.{words, is_line_byte, is_empty_word}
 use Rattle.script_text.specs.Keywords.{keyword_of, stands, is_built, turn_arguments, least_words, most_words, is_ended}
-use Rattle.script_text.specs.Reading.{◌>>=◌, number_at, datacentre_at, body_at, name_at, names_in}
+use Rattle.script_text.specs.Reading.{◌>>=◌, greatest_number, number_at, datacentre_at, body_at, name_at, names_in}
 use Rattle.script_text.specs.Arguments.{no_arguments, arguments_at, step_said}
 
 -- nothing has been said
@@ -37,24 +38,24 @@ chariots_line said rest = do
 
 unfoldable pub datacentres_line : Progress → List (List ℕ) → Result Progress Cause
 datacentres_line said rest = do
-  dcs ← number_at 1 8 rest
+  dcs ← number_at 1 DATACENTRES rest
   Ok (record said { dcs = dcs.0; section = section.Round })
 
 unfoldable pub round_line : Progress → List (List ℕ) → Result Progress Cause
 round_line said rest = do
-  round ← number_at 1 1024 rest
+  round ← number_at 1 ROUND rest
   Ok (record said { round = round.0; section = section.Stages })
 
 -- how many batchers, filters, queues, maintainers, indexers, senders and receivers there are
 unfoldable pub sizes_at : List (List ℕ) → Result (Sizes × List (List ℕ)) Cause
 sizes_at rest = do
-  batchers ← number_at 1 16 rest
-  filters ← number_at 1 16 batchers.1
-  queues ← number_at 1 16 filters.1
-  maintainers ← number_at 1 16 queues.1
-  indexers ← number_at 1 16 maintainers.1
-  senders ← number_at 1 16 indexers.1
-  receivers ← number_at 1 16 senders.1
+  batchers ← number_at 1 MEMBERS rest
+  filters ← number_at 1 MEMBERS batchers.1
+  queues ← number_at 1 MEMBERS filters.1
+  maintainers ← number_at 1 MEMBERS queues.1
+  indexers ← number_at 1 MEMBERS maintainers.1
+  senders ← number_at 1 MEMBERS indexers.1
+  receivers ← number_at 1 MEMBERS senders.1
   Ok (record { batchers = batchers.0; filters = filters.0; queues = queues.0; maintainers = maintainers.0; indexers = indexers.0; senders = senders.0; receivers = receivers.0 }, receivers.1)
 
 abbrev pub is_given : List StagesOf → ℕ → Bool
@@ -66,11 +67,11 @@ stages_line said rest = do
   sizes ← sizes_at dc.1
   if is_given said.stages dc.0 then Err GivenTwice else Ok (record said { stages = said.stages ++ record { dc = dc.0; sizes = sizes.0 } ∷ [] })
 
--- at most 64 sessions
+-- at most `SESSIONS` of them
 unfoldable pub session_line : Progress → List (List ℕ) → Result Progress Cause
 session_line said rest = do
   home ← datacentre_at said.dcs rest
-  if length said.sessions == 64 then Err TooMany else Ok (record said { sessions = said.sessions ++ record { home = home.0; commands = [] } ∷ []; section = section.Sessions })
+  if length said.sessions == SESSIONS then Err TooMany else Ok (record said { sessions = said.sessions ++ record { home = home.0; commands = [] } ∷ []; section = section.Sessions })
 
 -- one more command of the last session
 abbrev pub onto_last : List SessionPlan → CommandOf → List SessionPlan
@@ -78,9 +79,9 @@ onto_last [] command = []
 onto_last (plan ∷ []) command = record { home = plan.home; commands = plan.commands ++ command ∷ [] } ∷ []
 onto_last (plan ∷ next ∷ more) command = plan ∷ onto_last (next ∷ more) command
 
--- at most 16,384 commands
+-- at most `COMMANDS` of them
 unfoldable pub with_command : Progress → CommandOf → Result Progress Cause
-with_command said command = if nat_le 16384 said.commands then Err TooMany else (if length said.sessions == 0 then Err OutOfPlace else Ok (record said { sessions = onto_last said.sessions command; commands = said.commands + 1 }))
+with_command said command = if nat_le COMMANDS said.commands then Err TooMany else (if length said.sessions == 0 then Err OutOfPlace else Ok (record said { sessions = onto_last said.sessions command; commands = said.commands + 1 }))
 
 unfoldable pub append_line : Progress → List (List ℕ) → Result Progress Cause
 append_line said rest = do
@@ -106,13 +107,13 @@ tx_line said rest = do
 
 unfoldable pub read_line : Progress → List (List ℕ) → Result Progress Cause
 read_line said rest = do
-  lid ← number_at 1 4294967295 rest
+  lid ← number_at 1 greatest_number rest
   with_command said (command.Read lid.0)
 
 unfoldable pub last_line : Progress → List (List ℕ) → Result Progress Cause
 last_line said rest = do
   tag ← name_at rest
-  count ← number_at 1 64 tag.1
+  count ← number_at 1 LAST_RECORDS tag.1
   with_command said (command.Last tag.0 count.0)
 
 -- the commands
@@ -124,9 +125,9 @@ command_meaning said Tx rest = tx_line said rest
 command_meaning said Read rest = read_line said rest
 command_meaning said Last rest = last_line said rest
 
--- at most 65,536 steps
+-- at most `STEPS` of them
 unfoldable pub with_step : Progress → Step → Result Progress Cause
-with_step said step = if nat_le 65536 (length said.steps) then Err TooMany else Ok (record said { steps = said.steps ++ step ∷ [] })
+with_step said step = if nat_le STEPS (length said.steps) then Err TooMany else Ok (record said { steps = said.steps ++ step ∷ [] })
 
 -- the step lines
 unfoldable pub turn_line : Progress → TurnWord → List (List ℕ) → Result Progress Cause
@@ -198,7 +199,7 @@ told number (Err cause) = Err (Bad number cause)
 
 -- the number of the next line; a count of 32 bits stands still at its end
 abbrev pub next_number : ℕ → ℕ
-next_number number = min (number + 1) 4294967295
+next_number number = min (number + 1) greatest_number
 
 -- the script that the lines from a number on spell after what was said before, or the first bad line with its first cause
 abbrev pub script_from : Progress → ℕ → List (List ℕ) → Result Script ScriptFault

@@ -7,6 +7,11 @@ use Rattle.script_text.specs.declared.fault.LineFault.{LineFault}
 use Rattle.script_text.specs.declared.fault.LineFault.TheVariants as faults
 use Rattle.script_text.specs.Words.{is_number, number_of, is_datacentre, is_name, is_body}
 
+-- the greatest number of 32 bits, in which numbers of a script are kept
+abbrev pub greatest_number : ℕ
+greatest_number = 4294967295
+
+-- what a first step read goes on to a second; a cause ends both
 infixl 10 ◌>>=◌
 abbrev pub ◌>>=◌ : {A B E : Type 0} → Result A E → (A → Result B E) → Result B E
 (Ok x) >>= f = f x
@@ -39,7 +44,7 @@ number_at least most (word ∷ more) = do
 -- a number below a limit
 unfoldable pub number_below_at : ℕ → List (List ℕ) → Result (ℕ × List (List ℕ)) Cause
 number_below_at limit left = do
-  n ← number_at 0 4294967295 left
+  n ← number_at 0 greatest_number left
   if nat_lt n.0 limit then Ok n else Err OutOfRange
 
 unfoldable pub datacentre_at : ℕ → List (List ℕ) → Result (ℕ × List (List ℕ)) Cause

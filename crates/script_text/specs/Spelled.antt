@@ -11,7 +11,7 @@ use Rattle.abstract_log.specs.declared.script.Step.TheVariants as step
 use Rattle.script_text.specs.declared.progress.Stages.{Stages}
 use Rattle.script_text.specs.Words.{words, is_line_byte}
 use Rattle.abstract_log.specs.Fits.{FitsSizes, FitsScript}
-use Rattle.script_text.specs.Steps.{FitsStep}
+use Rattle.abstract_log.specs.Turns.{FitsStep, IsBuiltStep}
 use Rattle.script_text.specs.Meaning.{is_passed_over, is_given, sizes_upto}
 
 -- the letter of a datacentre
@@ -91,31 +91,6 @@ pub record Spells (script : Script) (lines : List (List ℕ)) : Type 0 where
   pub stages : List Stages
   pub sizes : script.sizes ≡ sizes_upto stages script.workload.dcs
   pub written : said_words lines ≡ before_steps script.workload.dcs script.round stages script.workload.sessions ++ steps_words ∷ (map turn_words script.steps ++ end_words ∷ [])
-
--- what is read yet: all steps but those that add members
-abbrev pub IsBuiltStep : Step → Type 0
-IsBuiltStep (step.Client s) = Unit {0}
-IsBuiltStep (step.Flush d b) = Unit {0}
-IsBuiltStep (step.Pass d f q) = Unit {0}
-IsBuiltStep (step.Stamp d q) = Unit {0}
-IsBuiltStep (step.Token d) = Unit {0}
-IsBuiltStep (step.Place d q m) = Unit {0}
-IsBuiltStep (step.Gossip d m k) = Unit {0}
-IsBuiltStep (step.Post d m i) = Unit {0}
-IsBuiltStep (step.Learn d) = Unit {0}
-IsBuiltStep (step.Send d k e) = Unit {0}
-IsBuiltStep (step.Deliver d e k r) = Unit {0}
-IsBuiltStep (step.Lose d e k) = Unit {0}
-IsBuiltStep (step.Copy d e k) = Unit {0}
-IsBuiltStep (step.Floor d p) = Unit {0}
-IsBuiltStep (step.Collect d m) = Unit {0}
-IsBuiltStep (step.Announce d h t) = ⊥
-IsBuiltStep (step.Mark d) = ⊥
-IsBuiltStep (step.AddMaintainer d p) = ⊥
-IsBuiltStep (step.AddBatcher d) = ⊥
-IsBuiltStep (step.AddQueue d) = ⊥
-IsBuiltStep (step.AddSender d) = ⊥
-IsBuiltStep (step.AddReceiver d) = ⊥
 
 -- the sizes of each datacentre are given at most once
 abbrev pub AreGivenOnce : List Stages → Type 0

@@ -2,6 +2,7 @@
 use Rattle.std.specs.Prelude.{◌==◌, ◌&&◌, ◌||◌, ◌+◌, ℕ, Bool, true, false, not, nat_le, nat_lt, is_none, List, [], ◌∷◌, length, slice_index}
 use Rattle.std.specs.List.{slice_split, list_all}
 use Rattle.std.specs.Str.Parse.{digits_value}
+use Rattle.cz_base.specs.declared.limits.TheConstants.{DATACENTRES, NAME_BYTES, BODY_BYTES}
 use Rattle.cz_base.specs.Text.{first_bad, is_name_byte, is_body_byte}
 
 -- a byte that a line may have: printable, or a blank
@@ -36,17 +37,17 @@ is_number word = list_all is_digit word && nat_le 1 (length word) && nat_le (len
 abbrev pub number_of : List ℕ → ℕ
 number_of word = digits_value 10 word
 
--- one letter, that of one of so many datacentres, of which there are eight at most
+-- one letter, that of one of so many datacentres, where the log may have so many
 abbrev pub is_datacentre : ℕ → List ℕ → Bool
 is_datacentre dcs [] = false
-is_datacentre dcs (letter ∷ []) = nat_le 65 letter && nat_lt letter (65 + dcs) && nat_lt letter 73
+is_datacentre dcs (letter ∷ []) = nat_le 65 letter && nat_lt letter (65 + dcs) && nat_lt letter (65 + DATACENTRES)
 is_datacentre dcs (letter ∷ next ∷ more) = false
 
 -- a key or a tag
 abbrev pub is_name : List ℕ → Bool
-is_name word = nat_le 1 (length word) && nat_le (length word) 64 && is_none (first_bad is_name_byte word)
+is_name word = nat_le 1 (length word) && nat_le (length word) NAME_BYTES && is_none (first_bad is_name_byte word)
 
 -- `=`, and then a body
 abbrev pub is_body : List ℕ → Bool
 is_body [] = false
-is_body (sign ∷ bytes) = (sign == 61) && nat_le (length bytes) 1024 && is_none (first_bad is_body_byte bytes)
+is_body (sign ∷ bytes) = (sign == 61) && nat_le (length bytes) BODY_BYTES && is_none (first_bad is_body_byte bytes)

@@ -1,3 +1,5 @@
+//! The words of a step line behind the first: what each of them gives, and the step that they say.
+
 ghost use Rattle.std.specs.Prelude.{◌≡◌};
 ghost use Rattle.script_text.specs.Reading.{Reads};
 ghost use Rattle.script_text.specs.Arguments.{no_arguments, argument_at, arguments_at, step_said};
@@ -7,6 +9,7 @@ use crate::keyword::TurnWord;
 use crate::words::Words;
 use abstract_log::Step;
 use cz_base::DcId;
+use cz_base::limits::{MEMBERS, PACKETS};
 
 /// What a word of a step line gives.
 #[derive(Clone, Copy, Debug, PartialEq, Eq)]
@@ -17,11 +20,11 @@ pub enum Argument {
     Other,
     /// A session that there is.
     Session,
-    /// The number of a member, below 16.
+    /// The number of a member, below [`MEMBERS`].
     Member,
-    /// The number of a second member, below 16.
+    /// The number of a second member, below [`MEMBERS`].
     Second,
-    /// The number of a packet, 1 to 64.
+    /// The number of a packet, from 1 to [`PACKETS`].
     Packet,
     /// A position, 1 or more.
     Position,
@@ -30,15 +33,23 @@ pub enum Argument {
 /// What the words of a step line have given so far; 0 stands for what was not given.
 #[derive(Clone, Copy, Debug, PartialEq, Eq)]
 pub struct Arguments {
+    /// The datacentre whose turn it is.
     pub dc: DcId,
+    /// The datacentre at the other end of a link.
     pub other: DcId,
+    /// The number of a session, from 0 on.
     pub session: u32,
+    /// The number of a member of a stage, from 0 on.
     pub member: u32,
+    /// The number of a member of another stage, from 0 on.
     pub second: u32,
+    /// The place of a packet on a link, from 1 on.
     pub packet: u32,
+    /// A position of the log, from 1 on.
     pub position: u32,
 }
 
+// Nothing has been given.
 const NO_ARGUMENTS: Arguments = Arguments {
     dc: DcId::FIRST,
     other: DcId::FIRST,
@@ -48,8 +59,6 @@ const NO_ARGUMENTS: Arguments = Arguments {
     packet: 0,
     position: 0,
 };
-
-const MEMBERS: usize = 16;
 
 impl Arguments {
     // What is given with the next word.
@@ -70,7 +79,7 @@ impl Arguments {
             Argument::Session => given.session = words.number_below(sessions)?,
             Argument::Member => given.member = words.number_below(MEMBERS)?,
             Argument::Second => given.second = words.number_below(MEMBERS)?,
-            Argument::Packet => given.packet = words.number(1, 64)?,
+            Argument::Packet => given.packet = words.number(1, PACKETS as u32)?,
             Argument::Position => given.position = words.number(1, u32::MAX)?,
         }
         Ok(given)
@@ -94,7 +103,7 @@ pub fn read_arguments(
     Ok(given)
 }
 
-/// The step that a word says with its arguments.
+/// The step that a word says with its arguments; the lines that add members are not built yet.
 pub fn step_said(word: TurnWord, given: Arguments) -> Result<Step, Cause>
     ensures { result ≡ step_said word given }
 {

@@ -1,41 +1,59 @@
+//! Why a script is refused: the cause, and the line that has it.
+
 ghost use Rattle.std.specs.Prelude.{◌≡◌};
 ghost use Rattle.script_text.specs.declared.fault.LineFault.TheVariants.{Bad as BadLine, NoMemory as OutOfMemory};
 
 use cz_base::{Back, NoMemory};
+use std::alloc::AllocError;
 use thiserror::Error;
 
 /// Why a line is refused. Where several causes apply to one line, the one that stands first here is
 /// told, but for those of single words, which are told from left to right.
 #[derive(Clone, Copy, Debug, PartialEq, Eq, Error)]
 pub enum Cause {
+    /// A byte that no line has.
     #[error("bad byte")]
     BadByte,
+    /// Two blanks side by side, or one at an end of the line.
     #[error("bad spacing")]
     BadSpacing,
+    /// A line behind `end` that says something.
     #[error("after end")]
     AfterEnd,
+    /// The first word begins no line.
     #[error("unknown word")]
     UnknownWord,
+    /// A line of this kind does not stand here.
     #[error("out of place")]
     OutOfPlace,
+    /// Lines of this kind are not read yet.
     #[error("not built")]
     NotBuilt,
+    /// Too few or too many words for a line of this kind.
     #[error("wrong number of words")]
     WrongWords,
+    /// No letter of a datacentre of this script, or the one at which the link begins.
     #[error("bad datacentre")]
     BadDatacentre,
+    /// No number: other bytes than digits, a needless zero, or more than ten digits.
     #[error("bad number")]
     BadNumber,
+    /// A number beyond its range.
     #[error("out of range")]
     OutOfRange,
+    /// No key or tag.
     #[error("bad name")]
     BadName,
+    /// No body behind `=`.
     #[error("bad body")]
     BadBody,
+    /// The sizes of this datacentre are given already.
     #[error("given twice")]
     GivenTwice,
+    /// One more session, command or step than a script may have.
     #[error("too many")]
     TooMany,
+    /// The input ended before `end`.
     #[error("too short")]
     TooShort,
 }
@@ -43,16 +61,25 @@ pub enum Cause {
 /// Why bytes are not read as a script: the first bad line, counted from 1, and its cause.
 #[derive(Clone, Copy, Debug, PartialEq, Eq, Error)]
 pub enum ScriptFault {
+    /// A line is refused.
     #[error("line {line}: {cause}")]
-    Bad { line: u32, cause: Cause },
+    Bad {
+        /// The number of the line, from 1 on.
+        line: u32,
+        /// The first cause that applies to it.
+        cause: Cause,
+    },
+    /// There was no memory for what was read.
     #[error("no memory")]
     NoMemory,
 }
 
-// Why one line is not read.
+/// Why one line is not read.
 #[derive(Clone, Copy, Debug, PartialEq, Eq)]
 pub enum LineFault {
+    /// It is refused.
     Bad(Cause),
+    /// There was no memory for what it says.
     NoMemory,
 }
 
@@ -61,6 +88,14 @@ impl From<Cause> for LineFault {
 
     fn from(cause: Cause) -> Self {
         LineFault::Bad(cause)
+    }
+}
+
+impl From<AllocError> for LineFault {
+    ghost from_gives = { λ _ fault. fault ≡ OutOfMemory };
+
+    fn from(_: AllocError) -> Self {
+        LineFault::NoMemory
     }
 }
 

@@ -1,59 +1,99 @@
+//! The words that begin lines: where each line may stand, how many words it has, and what they give.
+
 ghost use Rattle.std.specs.Prelude.{◌≡◌, length, bytes_eq};
 ghost use Rattle.std.specs.List.{find};
 ghost use Rattle.script_text.specs.Keywords.{text_of, command_text, turn_text, keyword_of, stands, is_built, turn_is_built, turn_arguments, least_words, most_words, command_is_built, least_command_words, most_command_words};
 
 use crate::arguments::Argument;
 use crate::section::Section;
+use cz_base::limits::{KEYS, TAGS};
 
 /// The word that begins a line, and tells what kind of line it is.
 #[derive(Clone, Copy, Debug, PartialEq, Eq)]
 pub enum Keyword {
+    /// The first line: the version of the form.
     Chariots,
+    /// How many datacentres there are.
     Datacentres,
+    /// How many positions in a row one maintainer owns.
     Round,
+    /// The numbers of members of the stages of one datacentre.
     Stages,
+    /// A session begins, at its datacentre.
     Session,
+    /// The next command of the session.
     Command(CommandWord),
+    /// The steps begin.
     Steps,
+    /// The next step.
     Turn(TurnWord),
+    /// The script ends.
     End,
 }
 
 /// The word that begins a command of a session.
 #[derive(Clone, Copy, Debug, PartialEq, Eq)]
 pub enum CommandWord {
+    /// A record with a body and tags is appended.
     Append,
+    /// A key gets a value.
     Put,
+    /// The value of a key is read.
     Get,
+    /// The values of several keys are read at one point of the log.
     Tx,
+    /// The record at a position is read.
     Read,
+    /// The last records with a tag are read.
     Last,
 }
 
 /// The word that begins a step line.
 #[derive(Clone, Copy, Debug, PartialEq, Eq)]
 pub enum TurnWord {
+    /// A session begins or ends its next command.
     Client,
+    /// A batcher hands its batches to the filters.
     Flush,
+    /// A filter passes records on to a queue.
     Pass,
+    /// A queue gives its records their positions.
     Stamp,
+    /// The token goes to the next queue.
     Token,
+    /// A queue hands records to the maintainer of their positions.
     Place,
+    /// A maintainer tells another how far it is.
     Gossip,
+    /// A maintainer tells an indexer of tags.
     Post,
+    /// What a datacentre knows of itself enters its table.
     Learn,
+    /// A sender puts a message on a link.
     Send,
+    /// A receiver takes a packet from a link.
     Deliver,
+    /// A packet is lost.
     Lose,
+    /// A packet is doubled.
     Copy,
+    /// The floor of a datacentre rises to a position.
     Floor,
+    /// A maintainer drops records below the floor that all know.
     Collect,
+    /// A step that is not read yet.
     Announce,
+    /// A step that is not read yet.
     Mark,
+    /// A step that adds a member and is not read yet.
     AddMaintainer,
+    /// A step that adds a member and is not read yet.
     AddBatcher,
+    /// A step that adds a member and is not read yet.
     AddQueue,
+    /// A step that adds a member and is not read yet.
     AddSender,
+    /// A step that adds a member and is not read yet.
     AddReceiver,
 }
 
@@ -105,6 +145,7 @@ impl Keyword {
         find_in(&KEYWORDS, word)
     }
 
+    // The word that begins such a line.
     #[tactic(auto, unfolding(crate::specs::Keywords::text_of))]
     fn text(self) -> &'static [u8]
         ensures { result.now ≡ text_of self }
@@ -191,6 +232,7 @@ fn find_in(keywords: &[Keyword], word: &[u8]) -> Option<Keyword>
 }
 
 impl CommandWord {
+    // The word itself.
     fn text(self) -> &'static [u8]
         ensures { result.now ≡ command_text self }
     {
@@ -204,6 +246,7 @@ impl CommandWord {
         }
     }
 
+    // Whether such commands are read yet.
     fn is_built(self) -> bool
         ensures { result ≡ command_is_built self }
     {
@@ -217,15 +260,16 @@ impl CommandWord {
         }
     }
 
+    // How many words may follow the first, at least and at most.
     fn words(self) -> (usize, usize)
         ensures least { result.0 ≡ least_command_words self }
         ensures most { result.1 ≡ most_command_words self }
     {
         match self {
-            CommandWord::Append => (1, 9),
+            CommandWord::Append => (1, TAGS + 1),
             CommandWord::Put => (2, 2),
             CommandWord::Get => (1, 1),
-            CommandWord::Tx => (1, 16),
+            CommandWord::Tx => (1, KEYS),
             CommandWord::Read => (1, 1),
             CommandWord::Last => (2, 2),
         }
@@ -233,6 +277,7 @@ impl CommandWord {
 }
 
 impl TurnWord {
+    // The word itself.
     fn text(self) -> &'static [u8]
         ensures { result.now ≡ turn_text self }
     {
@@ -262,6 +307,7 @@ impl TurnWord {
         }
     }
 
+    // Whether such steps are read yet.
     fn is_built(self) -> bool
         ensures { result ≡ turn_is_built self }
     {

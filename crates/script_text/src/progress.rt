@@ -1,3 +1,5 @@
+//! What the lines of a script have said so far, and what the next one adds.
+
 ghost use Rattle.std.specs.Prelude.{◌≡◌, ◌==◌, IfOk};
 ghost use Rattle.std.specs.List.{list_all, list_any, find};
 ghost use Rattle.script_text.specs.Words.{words, is_line_byte, is_empty_word};
@@ -10,29 +12,39 @@ use crate::keyword::{CommandWord, Keyword, TurnWord};
 use crate::section::Section;
 use crate::words::Words;
 use abstract_log::{Command, Script, SessionPlan, Sizes, Step, Workload};
+use cz_base::limits::{COMMANDS, DATACENTRES, LAST_RECORDS, MEMBERS, ROUND, SESSIONS, STEPS};
 use cz_base::{DcId, NoMemory, Seq};
 use std::alloc::Global;
 
 /// How many members the stages of one datacentre have, as a line gives them.
 #[derive(Clone, Copy, Debug, PartialEq, Eq)]
 pub struct Stages {
+    /// The datacentre.
     pub dc: DcId,
+    /// The numbers of members of its stages.
     pub sizes: Sizes,
 }
 
 /// What the lines of a script have said so far.
 #[derive(Debug, Drop)]
 pub struct Progress {
+    /// What comes next.
     pub section: Section,
+    /// How many datacentres there are, 0 before their line.
     pub dcs: u32,
+    /// How many positions in a row one maintainer owns, 0 before their line.
     pub round: u32,
+    /// The `stages` lines in their order.
     pub stages: Seq<Stages>,
+    /// The sessions in their order, each with its commands so far.
     pub sessions: Seq<SessionPlan>,
+    /// How many commands all sessions have together.
     pub commands: u32,
+    /// The steps in their order.
     pub steps: Seq<Step>,
 }
 
-/// The sizes of a datacentre that no line gives.
+// The sizes of a datacentre that no line gives.
 const ONE_OF_EACH: Sizes = Sizes {
     batchers: 1,
     filters: 1,
@@ -42,12 +54,6 @@ const ONE_OF_EACH: Sizes = Sizes {
     senders: 1,
     receivers: 1,
 };
-
-const MAX_SESSIONS: usize = 64;
-
-const MAX_COMMANDS: u32 = 16_384;
-
-const MAX_STEPS: usize = 65_536;
 
 impl Progress {
     /// Nothing has been read.
@@ -65,6 +71,7 @@ impl Progress {
         }
     }
 
+    // The first line, which says the version of the form.
     #[tactic(auto, unfolding(crate::specs::Meaning::chariots_line))]
     fn chariots(&mut self, words: &mut Words<'_>) -> Result<(), Cause>
         ensures { Reads (λ _. self.new) result (chariots_line self.old words.old) }
@@ -74,24 +81,27 @@ impl Progress {
         Ok(())
     }
 
+    // How many datacentres there are.
     #[tactic(auto, unfolding(crate::specs::Meaning::datacentres_line))]
     fn datacentres(&mut self, words: &mut Words<'_>) -> Result<(), Cause>
         ensures { Reads (λ _. self.new) result (datacentres_line self.old words.old) }
     {
-        self.dcs = words.number(1, 8)?;
+        self.dcs = words.number(1, DATACENTRES as u32)?;
         self.section = Section::Round;
         Ok(())
     }
 
+    // How many positions in a row one maintainer owns.
     #[tactic(auto, unfolding(crate::specs::Meaning::round_line))]
     fn round(&mut self, words: &mut Words<'_>) -> Result<(), Cause>
         ensures { Reads (λ _. self.new) result (round_line self.old words.old) }
     {
-        self.round = words.number(1, 1024)?;
+        self.round = words.number(1, ROUND)?;
         self.section = Section::Stages;
         Ok(())
     }
 
+    // The numbers of members of the stages of one datacentre, at most once each.
     #[tactic(auto, unfolding(crate::specs::Meaning::stages_line))]
     fn stages(&mut self, words: &mut Words<'_>) -> Result<(), LineFault>
         ensures { Gives (λ _. self.new) result (stages_line self.old words.old) }
@@ -105,12 +115,13 @@ impl Progress {
         Ok(())
     }
 
+    // One more session, at its datacentre.
     #[tactic(auto, unfolding(crate::specs::Meaning::session_line))]
     fn session(&mut self, words: &mut Words<'_>) -> Result<(), LineFault>
         ensures { Gives (λ _. self.new) result (session_line self.old words.old) }
     {
         let home = words.datacentre(self.dcs)?;
-        if self.sessions.len() == MAX_SESSIONS {
+        if self.sessions.len() == SESSIONS {
             return Err(LineFault::Bad(Cause::TooMany));
         }
         let commands = Seq::new(self.sessions.alloc());
@@ -119,6 +130,7 @@ impl Progress {
         Ok(())
     }
 
+    // A command that appends a record.
     #[tactic(auto, unfolding(crate::specs::Meaning::append_line))]
     fn append(&mut self, words: &mut Words<'_>) -> Result<(), LineFault>
         ensures { Gives (λ _. self.new) result (append_line self.old words.old) }
@@ -129,6 +141,7 @@ impl Progress {
         self.put_command(Command::Append { tags, body })
     }
 
+    // A command that writes a key.
     #[tactic(auto, unfolding(crate::specs::Meaning::put_line))]
     fn put(&mut self, words: &mut Words<'_>) -> Result<(), LineFault>
         ensures { Gives (λ _. self.new) result (put_line self.old words.old) }
@@ -139,6 +152,7 @@ impl Progress {
         self.put_command(Command::Put { key, body })
     }
 
+    // A command that reads a key.
     #[tactic(auto, unfolding(crate::specs::Meaning::get_line))]
     fn get(&mut self, words: &mut Words<'_>) -> Result<(), LineFault>
         ensures { Gives (λ _. self.new) result (get_line self.old words.old) }
@@ -148,6 +162,7 @@ impl Progress {
         self.put_command(Command::Get { key })
     }
 
+    // A command that reads several keys.
     #[tactic(auto, unfolding(crate::specs::Meaning::tx_line))]
     fn tx(&mut self, words: &mut Words<'_>) -> Result<(), LineFault>
         ensures { Gives (λ _. self.new) result (tx_line self.old words.old) }
@@ -157,6 +172,7 @@ impl Progress {
         self.put_command(Command::Tx { keys })
     }
 
+    // A command that reads a position.
     #[tactic(auto, unfolding(crate::specs::Meaning::read_line))]
     fn read(&mut self, words: &mut Words<'_>) -> Result<(), LineFault>
         ensures { Gives (λ _. self.new) result (read_line self.old words.old) }
@@ -167,13 +183,14 @@ impl Progress {
         })
     }
 
+    // A command that reads the last records with a tag.
     #[tactic(auto, unfolding(crate::specs::Meaning::last_line))]
     fn last(&mut self, words: &mut Words<'_>) -> Result<(), LineFault>
         ensures { Gives (λ _. self.new) result (last_line self.old words.old) }
     {
         let alloc = self.sessions.alloc();
         let tag = words.name(alloc)?;
-        let count = words.number(1, 64)?;
+        let count = words.number(1, LAST_RECORDS)?;
         self.put_command(Command::Last { tag, count })
     }
 
@@ -182,7 +199,7 @@ impl Progress {
     fn put_command(&mut self, command: Command) -> Result<(), LineFault>
         ensures { Gives (λ _. self.new) result (with_command self.old command) }
     {
-        if self.commands >= MAX_COMMANDS {
+        if self.commands >= COMMANDS {
             return Err(LineFault::Bad(Cause::TooMany));
         }
         let Some(mut plan) = self.sessions.pop() else {
@@ -194,6 +211,7 @@ impl Progress {
         Ok(())
     }
 
+    // A step, by its word and the words behind it.
     #[tactic(auto, unfolding(crate::specs::Meaning::turn_line))]
     fn turn(&mut self, word: TurnWord, words: &mut Words<'_>) -> Result<(), LineFault>
         ensures { Gives (λ _. self.new) result (turn_line self.old word words.old) }
@@ -208,7 +226,7 @@ impl Progress {
     fn put_step(&mut self, step: Step) -> Result<(), LineFault>
         ensures { Gives (λ _. self.new) result (with_step self.old step) }
     {
-        if self.steps.len() >= MAX_STEPS {
+        if self.steps.len() >= STEPS {
             return Err(LineFault::Bad(Cause::TooMany));
         }
         self.steps.push(step)?;
@@ -233,6 +251,7 @@ impl Progress {
         Ok(())
     }
 
+    // A command, by its word and the words behind it.
     fn command(&mut self, word: CommandWord, words: &mut Words<'_>) -> Result<(), LineFault>
         ensures { Gives (λ _. self.new) result (command_meaning self.old word words.old) }
     {
@@ -295,7 +314,8 @@ impl Progress {
     pub fn into_script(self) -> Result<Script, NoMemory>
         ensures { IfOk result (λ script. script ≡ script_said self) }
     {
-        let mut sizes = Seq::new(self.stages.alloc());
+        let room = Vec::with_capacity(self.stages.alloc(), self.dcs as usize)?;
+        let mut sizes = Seq::from_vec(room);
         for number in 0..self.dcs {
             sizes.push(sizes_given(&self.stages, number))?;
         }
@@ -320,13 +340,13 @@ impl Progress {
 fn read_sizes(words: &mut Words<'_>) -> Result<Sizes, Cause>
     ensures { Reads (λ sizes. (sizes, words.new)) result (sizes_at words.old) }
 {
-    let batchers = words.number(1, 16)?;
-    let filters = words.number(1, 16)?;
-    let queues = words.number(1, 16)?;
-    let maintainers = words.number(1, 16)?;
-    let indexers = words.number(1, 16)?;
-    let senders = words.number(1, 16)?;
-    let receivers = words.number(1, 16)?;
+    let batchers = words.number(1, MEMBERS as u32)?;
+    let filters = words.number(1, MEMBERS as u32)?;
+    let queues = words.number(1, MEMBERS as u32)?;
+    let maintainers = words.number(1, MEMBERS as u32)?;
+    let indexers = words.number(1, MEMBERS as u32)?;
+    let senders = words.number(1, MEMBERS as u32)?;
+    let receivers = words.number(1, MEMBERS as u32)?;
     Ok(Sizes {
         batchers,
         filters,

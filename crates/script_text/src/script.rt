@@ -1,9 +1,11 @@
+//! Reading a whole script.
+
 ghost use Rattle.std.specs.Prelude.{◌≡◌, ℕ, All, IfOk, IsErrOf, MatchResult, Ok, Err};
 ghost use Rattle.script_text.specs.Lines.{lines};
 ghost use Rattle.abstract_log.specs.Fits.{FitsScript};
 ghost use Rattle.script_text.specs.Meaning.{script_of};
-ghost use Rattle.script_text.specs.Spelled.{Spells, IsBuiltStep, IsWritten};
-ghost use Rattle.script_text.specs.Steps.{FitsStep};
+ghost use Rattle.script_text.specs.Spelled.{Spells, IsWritten};
+ghost use Rattle.abstract_log.specs.Turns.{FitsStep, IsBuiltStep};
 ghost use Rattle.abstract_log.specs.declared.script.Script.{Script};
 ghost use Rattle.script_text.specs.declared.fault.Cause.{Cause};
 

@@ -1,3 +1,5 @@
+//! The parts of a script, in their order.
+
 ghost use Rattle.std.specs.Prelude.{◌≡◌};
 ghost use Rattle.script_text.specs.Keywords.{is_ended};
 
@@ -6,12 +8,15 @@ ghost use Rattle.script_text.specs.Keywords.{is_ended};
 pub enum Section {
     /// Nothing has been read.
     Start,
+    /// `datacentres`.
     Datacentres,
+    /// `round`.
     Round,
     /// `stages` lines, or the first session.
     Stages,
     /// A session has begun.
     Sessions,
+    /// `steps` has been read, and `end` has not.
     Steps,
     /// `end` has been read.
     Ended,

@@ -1,3 +1,5 @@
+//! The words of a line, one after another, and what a word spells.
+
 ghost use Rattle.std.specs.Prelude.{◌≡◌, ℕ, ◌+◌, ◌-◌, ◌<◌, ◌≤◌, List, [], ◌∷◌, length, slice_index, IfOk, MatchOption, IsTrue, true, false};
 ghost use Rattle.std.specs.List.{position, list_all, count_by};
 ghost use Rattle.script_text.specs.Words.{words, is_blank, is_digit, is_number, number_of, is_datacentre};
@@ -25,6 +27,7 @@ impl<'a> Model for Words<'a> {
 }
 
 impl<'a> Words<'a> {
+    /// All words of a line.
     pub fn new(line: &'a [u8]) -> Self
         ensures { result ≡ words line.now }
     {
@@ -61,7 +64,7 @@ impl<'a> Words<'a> {
         }
     }
 
-    /// The next word as a number of a range.
+    /// The next word as a number from `least` to `most`.
     #[tactic(auto, unfolding(crate::specs::Reading::number_at))]
     pub fn number(&mut self, least: u32, most: u32) -> Result<u32, Cause>
         ensures { Reads (λ n. (n, self.new)) result (number_at least most self.old) }
@@ -139,7 +142,7 @@ impl<'a> Words<'a> {
         ensures names { Gives (λ names. names) result (names_in self.old) }
         ensures left { IfOk result (λ _. self.new ≡ []) }
     {
-        let mut names = Seq::new(alloc);
+        let mut names = Seq::from_vec(Vec::with_capacity(alloc, self.len())?);
         while let Some(word) = self.next_word() {
             names.push(read_name(alloc, word)?)?;
         }
@@ -228,6 +231,7 @@ fn is_number(word: &[u8]) -> bool
     all_digits(word) && !word.is_empty() && word.len() <= 10 && (word.len() <= 1 || word[0] != b'0')
 }
 
+// Whether each byte is a digit.
 fn all_digits(word: &[u8]) -> bool
     ensures { result ≡ list_all is_digit word.now }
 {

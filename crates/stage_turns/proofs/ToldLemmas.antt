@@ -93,8 +93,8 @@ may_deliver w z d e m packet stands there has spelled =
     let at : StandsAt w e (datacentre_at z e) = stands.each e there in
     let told : IsTold w.workload.dcs (log_of w d) (table_of w d) d m = All-contains (IsTold w.workload.dcs (log_of w d) (table_of w d) d) (link_at z d e) m (stands.links d e) has in
     record {
-      some = at.members.ranges.batchers.0;
-      told = record { message = m; spelled = subst (λ n. SpellsMessage n packet m) (sym at.aware.square.rows) spelled; sender = told.from };
+      some = at.membership.members.ranges.batchers.0;
+      told = record { message = m; spelled = subst (λ n. SpellsMessage n packet m) (sym at.knowledge.aware.square.rows) spelled; sender = told.from };
     }
 
 -- the maintainers that are lent, whatever room they have

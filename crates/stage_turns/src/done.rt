@@ -7,7 +7,7 @@ use abstract_log::{Event, Outcome};
 use cz_base::Seq;
 
 /// What a turn answers, the events of the log that it makes, and whether a stage of the datacentre is then another one. An
-/// epoch list that a queue, a maintainer or a vector takes over is no change.
+/// epoch list that a queue, a maintainer, a vector or an indexer takes over is no change.
 #[derive(Debug, Drop)]
 pub struct TurnDone {
     /// What the stage line says of the turn.

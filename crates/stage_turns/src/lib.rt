@@ -3,6 +3,8 @@
 //! The model is plain data: lists of items, records, entries and counts, in the words of the stage world. The theorem for the
 //! layer above: what each function leaves of the stages that it is lent, what it answers and its events are the turn's
 //! equation there. Where stages stand for a log, each may be called.
+//!
+//! Tests: none here; the turns are run by the tests of `test_world` and of the program.
 #![tactic(auto)]
 
 mod client;

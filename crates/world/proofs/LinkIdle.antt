@@ -42,11 +42,11 @@ use Rattle.world.proofs.MovingLemmas.{packet_is, packets_are}
 abbrev IsSpelled : ℕ → Message → Type 0
 IsSpelled dcs m = SpellsMessage dcs (message_bytes dcs m) m
 
-first_same : {A : Type 0} (a b : A) (as bs : List A) → a ∷ as ≡ b ∷ bs → a ≡ b
-first_same a b as bs same = cc
+first_same : {A : Type 0} (a b : A) (more others : List A) → a ∷ more ≡ b ∷ others → a ≡ b
+first_same a b more others same = cc
 
-rest_same : {A : Type 0} (a b : A) (as bs : List A) → a ∷ as ≡ b ∷ bs → as ≡ bs
-rest_same a b as bs same = cc
+rest_same : {A : Type 0} (a b : A) (more others : List A) → a ∷ more ≡ b ∷ others → more ≡ others
+rest_same a b more others same = cc
 
 -- lists of messages with the same bytes are one
 spelled_same : (dcs : ℕ) (xs ys : List Message) → dcs ≤ 8 → All (IsSpelled dcs) xs → All (IsSpelled dcs) ys → packets_of dcs xs ≡ packets_of dcs ys → xs ≡ ys
@@ -57,8 +57,8 @@ spelled_same dcs (x ∷ xs) (y ∷ ys) few all_x all_y same =
     let bytes : message_bytes dcs x ≡ message_bytes dcs y = first_same (message_bytes dcs x) (message_bytes dcs y) (packets_of dcs xs) (packets_of dcs ys) same in
     let one : x ≡ y = (message_law dcs (message_bytes dcs x) (message_bytes dcs y) [] x y few (All-head (IsSpelled dcs) x xs all_x) (All-head (IsSpelled dcs) y ys all_y) (append-nil (message_bytes dcs x) ∙ bytes)).0 in
     let more : xs ≡ ys = spelled_same dcs xs ys few (All-tail (IsSpelled dcs) x xs all_x) (All-tail (IsSpelled dcs) y ys all_y)
-        (rest_same (message_bytes dcs x) (message_bytes dcs y) (packets_of dcs xs) (packets_of dcs ys) same) in
-    ap₂ (λ a as. a ∷ as) one more
+    (rest_same (message_bytes dcs x) (message_bytes dcs y) (packets_of dcs xs) (packets_of dcs ys) same) in
+    ap₂ (λ a rest. a ∷ rest) one more
 
 put_spelled : (dcs : ℕ) (ms : List Message) (m : Message) → All (IsSpelled dcs) ms → IsSpelled dcs m → All (IsSpelled dcs) (put_last ms m)
 put_spelled dcs ms m all one =

@@ -46,7 +46,7 @@ pub record Shows (dcs : ℕ) (z : Stages) (network : Network) : Type 0 where
   pub rows : length z.links ≡ dcs
   pub columns : All (λ row. length row ≡ dcs) z.links
 
--- The network are those that a turn leaves, and its outcome and its events are answered.
+-- The network is the one that a turn leaves, and its outcome and its events are answered.
 pub record HasMoved (dcs : ℕ) (moved : Moved) (network : Network) (done : TurnDone) : Type 0 where
   pub shown : Shows dcs moved.after network
   pub outcome : done.outcome ≡ moved.outcome
@@ -123,7 +123,7 @@ pub record HasSent (d k e : ℕ) (z : Datacentre) (old new : List DatacentreStat
   pub changed : sent.0.changed ≡ false
   pub packet : IsPacketOf d z k e sent.1
 
--- The network show stages that stand for a world which a run has left, and may take this step.
+-- The network shows stages that stand for a lawful world, and may take this step.
 pub record MayStep (load : Workload) (step : Step) (z : Stages) (network : Network) : Type 0 where
   pub world : World
   pub same : world.workload ≡ load

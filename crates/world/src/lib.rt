@@ -5,6 +5,8 @@
 //! line for each of them, so they are a run of the log on the script's workload, and the stages stand for the world that it
 //! leaves. `replay` takes the script's steps and then the turns of settling, and that run is finished: every command is
 //! answered, and every log has every record.
+//!
+//! Tests: the crate `test_world`, and the scripts of the program.
 #![tactic(auto)]
 
 mod exchanges;

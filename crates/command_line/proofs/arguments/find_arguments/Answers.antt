@@ -1,3 +1,4 @@
+-- What the check asks of `find_arguments` beyond what it finds by itself.
 use Rattle.std.proofs.Common.{◌∙◌}
 use Rattle.clap.specs.Words.{app_of, found_of, rows_of}
 use Rattle.command_line.proofs.Taken.{taken, found, refused}

@@ -1,3 +1,4 @@
+-- What the check asks of `read_seed` beyond what it finds by itself.
 use Rattle.std.proofs.Common.{◌∙◌, rules}
 use Rattle.command_line.proofs.Seeds.{no_seed_by_first, seed_read}
 use Rattle.command_line.proofs.arguments.read_seed.Goals as goal

@@ -1,3 +1,4 @@
+-- What the check asks of `read_words` beyond what it finds by itself.
 use Rattle.std.proofs.Common.{codes}
 use Rattle.clap.specs.Words.{found_of}
 use Rattle.command_line.proofs.Tasks.{text_is, passed_on, task_is, told}

@@ -1,3 +1,4 @@
+-- What the check asks of `gen_takes_a_seed` beyond what it finds by itself.
 use Rattle.command_line.proofs.Examples as example
 use Rattle.command_line.proofs.laws.gen_takes_a_seed.Goals as goal
 

@@ -1,3 +1,4 @@
+-- What the check asks of `other_words_ask_for_nothing` beyond what it finds by itself.
 use Rattle.command_line.proofs.Examples as example
 use Rattle.command_line.proofs.laws.other_words_ask_for_nothing.Goals as goal
 

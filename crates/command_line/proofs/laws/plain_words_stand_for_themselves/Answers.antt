@@ -1,3 +1,4 @@
+-- What the check asks of `plain_words_stand_for_themselves` beyond what it finds by itself.
 use Rattle.command_line.proofs.Walks as walks
 use Rattle.command_line.proofs.laws.plain_words_stand_for_themselves.Goals as goal
 

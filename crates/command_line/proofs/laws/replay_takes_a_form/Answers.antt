@@ -1,3 +1,4 @@
+-- What the check asks of `replay_takes_a_form` beyond what it finds by itself.
 use Rattle.command_line.proofs.Examples as example
 use Rattle.command_line.proofs.laws.replay_takes_a_form.Goals as goal
 

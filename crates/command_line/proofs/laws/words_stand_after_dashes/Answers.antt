@@ -1,3 +1,4 @@
+-- What the check asks of `words_stand_after_dashes` beyond what it finds by itself.
 use Rattle.command_line.proofs.Plain as example
 use Rattle.command_line.proofs.laws.words_stand_after_dashes.Goals as goal
 

@@ -1,3 +1,4 @@
+-- What the check asks of `put_commands` beyond what it finds by itself.
 use Rattle.report_text.specs.Lines.{line_text}
 use Rattle.report_text.specs.Report.{command_words}
 use Rattle.report_text.proofs.LineLemmas.{added_one}

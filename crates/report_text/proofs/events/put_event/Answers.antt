@@ -1,3 +1,4 @@
+-- What the check asks of `put_event` beyond what it finds by itself.
 use Rattle.std.proofs.Common.{◌≡◌, ◌++◌, OnOk, subst, sym}
 use Rattle.abstract_log.specs.declared.event.Event.{Event}
 use Rattle.report_text.specs.Lines.{words_text}

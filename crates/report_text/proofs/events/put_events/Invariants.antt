@@ -1,3 +1,4 @@
+-- The loops of `put_events`: what holds at each turn, and why they end.
 use Rattle.std.proofs.Common.{◌≡◌, ◌++◌, take}
 use Rattle.std.specs.List.{flat_map}
 use Rattle.report_text.specs.Lines.{line_text}

@@ -1,3 +1,4 @@
+-- What the check asks of `put_items` beyond what it finds by itself.
 use Rattle.report_text.specs.Lines.{with_space}
 use Rattle.report_text.specs.Report.{found_words}
 use Rattle.report_text.proofs.LineLemmas.{added}

@@ -1,3 +1,4 @@
+-- The loops of `counts_value`: what holds at each turn, and why they end.
 use Rattle.std.proofs.Common.{◌≡◌, map, take}
 use Rattle.serde_json.specs.View.{view}
 use Rattle.report_text.specs.Json.{number_data}

@@ -1,3 +1,4 @@
+-- What the check asks of `json` beyond what it finds by itself.
 use Rattle.report_text.proofs.JsonLemmas.{json_told}
 use Rattle.report_text.proofs.json_form.json.Goals as goal
 

@@ -1,3 +1,4 @@
+-- What the check asks of `full` beyond what it finds by itself.
 use Rattle.std.proofs.Common.{◌∙◌}
 use Rattle.std.specs.Option.{option_copied}
 use Rattle.report_text.proofs.LeftLemmas.{few_left}

@@ -1,3 +1,4 @@
+-- What the check asks of `logs` beyond what it finds by itself.
 use Rattle.report_text.proofs.LeftLemmas.{few_left}
 use Rattle.report_text.proofs.report.logs.Goals as goal
 

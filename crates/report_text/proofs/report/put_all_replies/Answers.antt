@@ -1,3 +1,4 @@
+-- What the check asks of `put_all_replies` beyond what it finds by itself.
 use Rattle.report_text.specs.Lines.{line_text}
 use Rattle.report_text.specs.Report.{replies_of}
 use Rattle.report_text.proofs.LineLemmas.{added_below}

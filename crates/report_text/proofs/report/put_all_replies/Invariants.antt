@@ -1,3 +1,4 @@
+-- The loops of `put_all_replies`: what holds at each turn, and why they end.
 use Rattle.std.proofs.Common.{◌≡◌, ◌++◌}
 use Rattle.report_text.specs.Numbered.{below}
 use Rattle.report_text.specs.Lines.{lines_text}

@@ -1,3 +1,4 @@
+-- What the check asks of `put_datacentre` beyond what it finds by itself.
 use Rattle.report_text.specs.Lines.{line_text}
 use Rattle.report_text.specs.Report.{log_lines, table_lines}
 use Rattle.report_text.proofs.LineLemmas.{before_last}

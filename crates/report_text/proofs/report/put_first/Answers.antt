@@ -1,3 +1,4 @@
+-- What the check asks of `put_first` beyond what it finds by itself.
 use Rattle.std.proofs.Common.{codes}
 use Rattle.report_text.specs.Lines.{line_text}
 use Rattle.report_text.specs.Report.{first_line, fact_lines}

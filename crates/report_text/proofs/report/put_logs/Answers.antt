@@ -1,3 +1,4 @@
+-- What the check asks of `put_logs` beyond what it finds by itself.
 use Rattle.std.proofs.Common.{arith}
 use Rattle.report_text.specs.Lines.{line_text}
 use Rattle.report_text.specs.Report.{logged_lines}

@@ -1,3 +1,4 @@
+-- The loops of `put_positions`: what holds at each turn, and why they end.
 use Rattle.std.proofs.Common.{◌≡◌, ◌++◌, take}
 use Rattle.report_text.specs.Numbered.{flat_map_from}
 use Rattle.report_text.specs.Lines.{lines_text}

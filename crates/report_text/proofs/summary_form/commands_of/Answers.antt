@@ -1,3 +1,4 @@
+-- What the check asks of `commands_of` beyond what it finds by itself.
 use Rattle.std.proofs.Common.{arith}
 use Rattle.report_text.proofs.SummaryLemmas.{commands_more}
 use Rattle.report_text.proofs.summary_form.commands_of.Goals as goal

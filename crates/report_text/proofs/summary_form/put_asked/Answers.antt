@@ -1,3 +1,4 @@
+-- What the check asks of `put_asked` beyond what it finds by itself.
 use Rattle.report_text.proofs.SummaryLemmas.{asked_told}
 use Rattle.report_text.proofs.summary_form.put_asked.Goals as goal
 

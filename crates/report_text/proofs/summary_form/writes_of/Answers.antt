@@ -1,3 +1,4 @@
+-- What the check asks of `writes_of` beyond what it finds by itself.
 use Rattle.std.proofs.Common.{ap, arith, ◌∙◌}
 use Rattle.std.specs.List.{count_by}
 use Rattle.abstract_log.specs.Commands.{is_write}

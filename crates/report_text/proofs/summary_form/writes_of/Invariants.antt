@@ -1,3 +1,4 @@
+-- The loops of `writes_of`: what holds at each turn, and why they end.
 use Rattle.std.proofs.Common.{◌≡◌, take}
 use Rattle.report_text.specs.Summary.{writes_of}
 use Rattle.report_text.proofs.summary_form.writes_of.Given as goal

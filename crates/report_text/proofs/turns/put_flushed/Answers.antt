@@ -1,3 +1,4 @@
+-- What the check asks of `put_flushed` beyond what it finds by itself.
 use Rattle.report_text.specs.Lines.{with_space}
 use Rattle.report_text.specs.Turns.{flush_words}
 use Rattle.report_text.proofs.LineLemmas.{added}

@@ -1,3 +1,4 @@
+-- What the check asks of `put_stages` beyond what it finds by itself.
 use Rattle.report_text.specs.Lines.{line_text}
 use Rattle.report_text.specs.Turns.{stage_lines}
 use Rattle.report_text.proofs.LineLemmas.{added}

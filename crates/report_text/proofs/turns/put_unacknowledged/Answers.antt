@@ -1,3 +1,4 @@
+-- What the check asks of `put_unacknowledged` beyond what it finds by itself.
 use Rattle.std.proofs.Common.{◌≡◌, ◌++◌, OnOk, codes, subst}
 use Rattle.report_text.specs.Lines.{spaced}
 use Rattle.report_text.specs.Turns.{labelled}

@@ -1,3 +1,4 @@
+-- The loops of `put_keys`: what holds at each turn, and why they end.
 use Rattle.std.proofs.Common.{◌≡◌, ◌++◌, take}
 use Rattle.report_text.specs.Lines.{spaced}
 use Rattle.report_text.proofs.values.put_keys.Given as goal

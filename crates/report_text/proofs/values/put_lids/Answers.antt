@@ -1,3 +1,4 @@
+-- What the check asks of `put_lids` beyond what it finds by itself.
 use Rattle.std.specs.Fmt.{decimal}
 use Rattle.report_text.specs.Lines.{with_space}
 use Rattle.report_text.proofs.LineLemmas.{added_read}

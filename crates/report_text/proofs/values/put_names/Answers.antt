@@ -1,3 +1,4 @@
+-- What the check asks of `put_names` beyond what it finds by itself.
 use Rattle.std.proofs.Common.{ℕ}
 use Rattle.report_text.specs.Lines.{with_space}
 use Rattle.report_text.specs.Values.{name_word}

@@ -1,3 +1,4 @@
+-- The loops of `put_table`: what holds at each turn, and why they end.
 use Rattle.std.proofs.Common.{◌≡◌, ◌++◌, take}
 use Rattle.report_text.specs.Values.{table_word}
 use Rattle.report_text.proofs.values.put_table.Given as goal

@@ -1,3 +1,4 @@
+-- What the check asks of `generate` beyond what it finds by itself.
 use Rattle.std.proofs.Common.{◌∙◌}
 use Rattle.script_generator.proofs.ScriptLemmas.{is_generated, is_good}
 use Rattle.script_generator.proofs.script.generate.Goals as goal

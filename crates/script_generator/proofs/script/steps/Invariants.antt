@@ -1,3 +1,4 @@
+-- The loops of `steps`: what holds at each turn, and why they end.
 use Rattle.std.proofs.Common.{◌≡◌}
 use Rattle.script_generator.specs.Draws.{many}
 use Rattle.script_generator.specs.Generated.{step}

@@ -1,3 +1,4 @@
+-- What the check asks of `name` beyond what it finds by itself.
 use Rattle.std.proofs.Common.{ap}
 use Rattle.std.specs.Prelude.{Err}
 use Rattle.cz_base.specs.Text.{first_bad, is_name_byte}

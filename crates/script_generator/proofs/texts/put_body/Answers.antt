@@ -1,3 +1,4 @@
+-- What the check asks of `put_body` beyond what it finds by itself.
 use Rattle.std.proofs.Common.{arith, subst, sym, ◌∙◌}
 use Rattle.cz_base.specs.Text.{IsBody}
 use Rattle.script_generator.proofs.TextLemmas.{put_is_body}

@@ -1,3 +1,4 @@
+-- What the check asks of `tag_name` beyond what it finds by itself.
 use Rattle.std.proofs.Common.{arith, subst, sym, ◌∙◌}
 use Rattle.cz_base.specs.Text.{IsName}
 use Rattle.script_generator.proofs.TextLemmas.{tag_is_name}

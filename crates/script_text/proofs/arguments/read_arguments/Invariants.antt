@@ -1,3 +1,4 @@
+-- The loops of `read_arguments`: what holds at each turn, and why they end.
 use Rattle.std.proofs.Common.{◌≡◌, drop}
 use Rattle.script_text.specs.Arguments.{no_arguments, arguments_at}
 use Rattle.script_text.proofs.arguments.read_arguments.Given as goal

@@ -1,3 +1,4 @@
+-- The loops of `find_in`: what holds at each turn, and why they end.
 use Rattle.std.proofs.Common.{◌≡◌, drop}
 use Rattle.std.specs.Prelude.{bytes_eq}
 use Rattle.std.specs.List.{find}

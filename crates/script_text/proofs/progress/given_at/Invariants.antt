@@ -1,3 +1,4 @@
+-- The loops of `given_at`: what holds at each turn, and why they end.
 use Rattle.std.proofs.Common.{◌≡◌, drop, nat_eq}
 use Rattle.std.specs.List.{find}
 use Rattle.script_text.proofs.progress.given_at.Given as goal

@@ -1,3 +1,4 @@
+-- The loops of `has_empty_word`: what holds at each turn, and why they end.
 use Rattle.std.proofs.Common.{◌≡◌, length}
 use Rattle.std.specs.List.{list_any}
 use Rattle.script_text.specs.Words.{words, is_empty_word}

@@ -1,3 +1,4 @@
+-- The loops of `read_lines`: what holds at each turn, and why they end.
 use Rattle.std.proofs.Common.{◌≡◌, length}
 use Rattle.script_text.specs.Lines.{lines}
 use Rattle.script_text.specs.Meaning.{start, script_from}

@@ -1,3 +1,4 @@
+-- What the check asks of `read_script` beyond what it finds by itself.
 use Rattle.script_text.specs.Lines.{lines}
 use Rattle.script_text.proofs.Accepted.{all-only}
 use Rattle.script_text.proofs.Laid.{all-written, all-spell, all-fit, all-steps, all-built}

@@ -1,3 +1,4 @@
+-- What the check asks of `number_of` beyond what it finds by itself.
 use Rattle.std.proofs.Common.{arith}
 use Rattle.script_text.proofs.WordLemmas.{digit_at, room_for_digit}
 use Rattle.script_text.proofs.words.number_of.Goals as goal

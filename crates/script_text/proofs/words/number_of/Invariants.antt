@@ -1,3 +1,4 @@
+-- The loops of `number_of`: what holds at each turn, and why they end.
 use Rattle.std.proofs.Common.{◌≡◌, ◌<◌, ◌^◌, drop}
 use Rattle.std.specs.Str.Parse.{digits_value, digits_value_after}
 use Rattle.script_text.proofs.words.number_of.Given as goal

@@ -1,3 +1,4 @@
+-- What the check asks of `read_body` beyond what it finds by itself.
 use Rattle.std.proofs.Common.{arith}
 use Rattle.script_text.proofs.WordLemmas.{body_in-bad_word}
 use Rattle.script_text.proofs.words.read_body.Goals as goal

@@ -1,3 +1,4 @@
+-- What the check asks of `read_name` beyond what it finds by itself.
 use Rattle.script_text.proofs.WordLemmas.{name_in-bad}
 use Rattle.script_text.proofs.words.read_name.Goals as goal
 

@@ -2,4 +2,4 @@ use Rattle.abstract_log.specs.Shapes.{IsShaped}
 use Rattle.test_log.proofs.event_rows.each_kind_of_event_happens.Given as goal
 
 abbrev pub invariant-loop-row : goal.invariant-loop-row
-invariant-loop-row l = IsShaped l.log
+invariant-loop-row g l = IsShaped l.log

@@ -12,8 +12,8 @@ returns-clause-turned c =
     (λ done vectors same outcome events changed. gossip_is c.args.self.now c.args.m c.args.k c.item_mut.result.now c.gossip.new.maintainer c.gossip.new.vectors done
     c.requires (search rules) (search rules) c.item_mut.ensures.value c.gossip.ensures.maintainer vectors outcome events changed)
 
-pub returns-then-m-there : goal.returns-then-m-there
-returns-then-m-there c = elim c.then-m-there.branch [
+pub returns-then-m-there-clause-turned : goal.returns-then-m-there-clause-turned
+returns-then-m-there-clause-turned c = elim c.then-m-there.branch [
   | then-m-there-via-then-m-there w ↦ first_not_there c.args.self.now c.absent.result c.args.m (length c.args.self.now.maintainers) c.args.k (length c.args.self.now.maintainers) _ c.requires
       (omega (arith, w.if-m-there.true, c.len-there.ensures)) c.absent.ensures
   | then-m-there-via-else-m-there+then-k-there w ↦ second_not_there c.args.self.now c.absent.result c.args.m (length c.args.self.now.maintainers) c.args.k (length c.args.self.now.maintainers) _ c.requires

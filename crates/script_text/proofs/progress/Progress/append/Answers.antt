@@ -1,3 +1,4 @@
+-- What the check asks of `Progress::append` beyond what it finds by itself.
 use Rattle.script_text.proofs.MeaningLemmas.{append_line-read}
 use Rattle.script_text.proofs.progress.Progress.append.Goals as goal
 

@@ -1,3 +1,4 @@
+-- What the check asks of `Progress::get` beyond what it finds by itself.
 use Rattle.script_text.proofs.MeaningLemmas.{get_line-read}
 use Rattle.script_text.proofs.progress.Progress.get.Goals as goal
 

@@ -1,3 +1,4 @@
+-- What the check asks of `Progress::last` beyond what it finds by itself.
 use Rattle.script_text.proofs.MeaningLemmas.{last_line-read}
 use Rattle.script_text.proofs.progress.Progress.last.Goals as goal
 

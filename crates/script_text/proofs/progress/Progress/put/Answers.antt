@@ -1,3 +1,4 @@
+-- What the check asks of `Progress::put` beyond what it finds by itself.
 use Rattle.script_text.proofs.MeaningLemmas.{put_line-read}
 use Rattle.script_text.proofs.progress.Progress.put.Goals as goal
 

@@ -1,3 +1,4 @@
+-- What the check asks of `Progress::put_command` beyond what it finds by itself.
 use Rattle.std.proofs.Common.{arith}
 use Rattle.script_text.proofs.MeaningLemmas.{with_command-pushed}
 use Rattle.script_text.proofs.progress.Progress.put_command.Goals as goal

@@ -1,3 +1,4 @@
+-- What the check asks of `Progress::turn` beyond what it finds by itself.
 use Rattle.std.proofs.Common.{sym}
 use Rattle.script_text.proofs.MeaningLemmas.{turn_line-read}
 use Rattle.script_text.proofs.progress.Progress.turn.Goals as goal

@@ -1,3 +1,4 @@
+-- What the check asks of `Words::len` beyond what it finds by itself.
 use Rattle.script_text.proofs.WordLemmas.{length-words_left}
 use Rattle.script_text.proofs.words.Words.len.Goals as goal
 

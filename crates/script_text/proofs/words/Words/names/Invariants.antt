@@ -1,3 +1,4 @@
+-- The loops of `Words::names`: what holds at each turn, and why they end.
 use Rattle.std.proofs.Common.{◌≡◌, ◌++◌, length}
 use Rattle.std.specs.List.{list_all}
 use Rattle.script_text.specs.Words.{is_name}

@@ -1,3 +1,4 @@
+-- What the check asks of `Words::next_word` beyond what it finds by itself.
 use Rattle.std.proofs.Common.{sym}
 use Rattle.script_text.proofs.WordLemmas.{words_left-first, words_left-one}
 use Rattle.script_text.proofs.words.Words.next_word.Goals as goal

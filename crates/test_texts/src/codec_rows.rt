@@ -1,3 +1,4 @@
+//! The bytes of records and messages, and the places at which they are malformed.
 use record_codec::{DecodeFault, decode_message, decode_record, encode_message, encode_record};
 use std::alloc::{AllocError, Global};
 use std::process::Abort;
@@ -65,14 +66,21 @@ fn a_record_has_its_38_bytes(rt: HostRuntime) -> Result<(), Fail> {
     Ok(())
 }
 
+// The bytes of messages, and the place at which each is malformed.
+const MALFORMED: [(&[u8], usize); 5] = [
+    (&[], 0),
+    (&[2], 0),
+    (&[1, 5], 1),
+    (&[1, 0, 3], 2),
+    (&[1, 0, 2, 0, 1], 4),
+];
+
 #[test]
 fn malformed_messages_are_told_at_their_place(rt: HostRuntime) -> Result<(), Fail> {
     let alloc = rt.alloc();
-    assert_eq!(rt; message_fault(alloc, &[]), Some(0));
-    assert_eq!(rt; message_fault(alloc, &[2]), Some(0));
-    assert_eq!(rt; message_fault(alloc, &[1, 5]), Some(1));
-    assert_eq!(rt; message_fault(alloc, &[1, 0, 3]), Some(2));
-    assert_eq!(rt; message_fault(alloc, &[1, 0, 2, 0, 1]), Some(4));
+    for row in &MALFORMED {
+        assert_eq!(rt; message_fault(alloc, row.0), Some(row.1));
+    }
     assert_eq!(rt; message_fault(alloc, &start(alloc, 17)?), Some(35));
     let mut more = start(alloc, 0)?;
     assert_eq!(rt; message_fault(alloc, &more), None);
