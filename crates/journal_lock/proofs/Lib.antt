@@ -1,0 +1,11 @@
+pub mod Lists
+pub mod Numbers
+pub mod Runs
+pub mod Standing
+pub mod Stamps
+pub mod Locks
+pub mod Notices
+pub mod Places
+pub mod Sides
+pub mod Steps
+pub mod Pairs

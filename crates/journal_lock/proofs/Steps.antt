@@ -1,0 +1,188 @@
+-- Each kind of step keeps the whole rule.
+use Rattle.std.proofs.Common.{◌≡◌, ◌≢◌, ℕ, eqb, zero, suc, ◌+◌, ◌-◌, ◌<◌, ◌≤◌, List, [], ◌∷◌, ◌++◌, map, length, get_or, set, refl, ap, sym, ◌∙◌, subst, arith, Some, None, Option, length-set, get_or-set_other, get_or-set_same}
+use mathlib.Core.Option.{some, none}
+use mathlib.Core.List.{IsPrefix, map-append}
+use lib.ListN.{get_elem?}
+use lib.Seq.{map-set, set-get_or}
+use prog.Atomic.{either}
+use Rattle.atomic_table.specs.Table.{State, Me, step, Act, keeps, takes, gives, stepped, carried_after, Valid, Allows, Splits, Joins, opening, Final, Seen}
+use Rattle.atomic_table.proofs.Lists.{set_again, set_else, at_map, exchanged}
+use Rattle.abstract_log.specs.declared.command.Workload.{Workload}
+use Rattle.abstract_log.specs.declared.event.Event.{Event}
+use Rattle.abstract_log.specs.Shapes.{FitsWorkload}
+use Rattle.abstract_log.specs.Runs.{IsRun}
+use Rattle.journal_lock.specs.declared.duty.Duty.{Duty}
+use Rattle.journal_lock.specs.declared.duty.Position.{Position}
+use Rattle.journal_lock.specs.declared.law.Stage.{Stage}
+use Rattle.journal_lock.specs.declared.law.Stage.TheVariants.{Idle, Out, Back, Spent}
+use Rattle.journal_lock.specs.declared.law.Hold.{Hold}
+use Rattle.journal_lock.specs.declared.law.Note.TheVariants.{Met}
+use Rattle.journal_lock.specs.declared.law.View.{View}
+use Rattle.journal_lock.specs.Duties.{number, place, has, minus, Among, often, all_duties, HasDuty}
+use Rattle.journal_lock.specs.Law.{Book, total, busy, away, lives, Fits, Homes, Home, Locked, hold_of, At, Sat, fresh, spent, kept, given, joined, names, with_names, counted, learnt, staged, plain, known, Took, Takes, Counts, Frees}
+use Rattle.journal_lock.specs.Notes.{noted}
+use Rattle.journal_lock.specs.Names.{IsNamed, NamesByDuty, naming_of, amended, Amends, Meets, Learns}
+use Rattle.journal_lock.specs.Rule.{Sides, Keeps}
+use Rattle.journal_lock.proofs.Lists.{prefix_self, prefix_length}
+use Rattle.journal_lock.proofs.Stamps.{stamped_once}
+use Rattle.journal_lock.proofs.Locks as locks
+use Rattle.journal_lock.proofs.Sides.{same_map, start_sides, keep_sides, count_sides, note_sides, amend_sides, split_sides, join_sides}
+
+-- a rule put together: the words, the slot and what the views hold
+pub made : (load : Workload) → FitsWorkload load → (log : List Event) (words : List ℕ) (homes : Homes) (views : List View) (t c : ℕ) (hs : List Hold) → length words ≡ 2 → get_or words 0 0 ≡ t → get_or words 1 0 ≡ c → map hold_of views ≡ hs
+    → Locked load log t c homes hs → Sides log views → Keeps load record { words = words; homes = homes; views = views }
+made load fits log words homes views t c hs wide turn count same r sides = record {
+  fits = fits;
+  log = log;
+  wide = wide;
+  lock = subst (λ (z : ℕ × ℕ × List Hold). Locked load log z.0 z.1 homes z.2) (λ i. (sym turn i, sym count i, sym same i)) r;
+  sides = sides;
+}
+
+pub first_state : (load : Workload) → FitsWorkload load → (w : Book) → ((x : ℕ) → has number x (all_duties load) ≤ 1) → w.log ≡ [] → IsRun load [] → Keeps load (opening (0 ∷ 0 ∷ []) (Some w ∷ []) (fresh load))
+first_state load fits w single empty run =
+    made load fits [] (0 ∷ 0 ∷ []) (some (Some w) ∷ []) (fresh load ∷ []) 0 0 ((fresh load).hold ∷ []) refl refl refl refl (locks.starts load w single empty run) (start_sides load)
+
+abbrev pub book_in : Book → Option Book → Book
+book_in d (Some b) = b
+book_in d None = d
+
+abbrev pub book_at : Book → List (ℕ × Option Book) → Book
+book_at d [] = d
+book_at d (x ∷ xs) = book_in d x.1
+
+module _ (load : Workload) (slots id : ℕ) (m : Sat) where
+  abbrev pub Rule : At → Type 0
+  Rule = Keeps load
+
+  pub take_step : m.0.hold.stage ≡ Idle → HasDuty m.0.hold.now.duties → Allows Rule slots id m 0 (λ x. either (eqb x 0) 1 x) (Takes (step slots 0 0 1 none) m)
+  take_step is duty s r len at small = let x : ℕ = get_or s.words 0 0 in let hs : List Hold = map hold_of s.views in let here = at_map hold_of s.views id m.0 at in let wide = r.wide in
+      let there : lives m.0.hold.stage ≡ 1 = ap lives is in
+      exchanged x 0 1 (λ z. (w : View) × (a : Act (Option Book)) × Valid s.homes m.1 a × Rule (stepped s 0 z id m.1 w a) × Takes (step slots 0 0 1 none) m x (w, carried_after m.1 a))
+      (λ hit. let home = locks.at_home load r.log x (get_or s.words 1 0) s.homes hs r.lock id m.0.hold here hit in let b : Book = home.0 in
+      let w : View = staged m.0 r.log Out in
+      let right : m.0.hold.load ≡ load = locks.right_load load r.log x (get_or s.words 1 0) s.homes hs r.lock id m.0.hold here (omega arith) in (
+        w,
+        takes 0 (Some b),
+        home.2,
+        made load r.fits r.log (set s.words 0 1) (set s.homes 0 none) (set s.views id w) 1 (get_or s.words 1 0) (set hs id w.hold) (length-set s.words 0 1 ∙ r.wide) (get_or-set_same s.words 0 1 0 (omega arith))
+            (get_or-set_other s.words 0 1 1 0 (λ e. omega arith)) (map-set hold_of s.views id w) (locks.takes load r.log x (get_or s.words 1 0) s.homes hs r.lock id m.0.hold here hit is duty)
+            (keep_sides r.log s.views r.sides id m.0 at w (r.lock.each id m.0.hold here).now.begins refl),
+        (
+          (λ _. (
+            b,
+            subst (λ (z : Workload × List Event). IsRun z.0 z.1) (λ i. (sym right i, sym home.1 i)) r.lock.run,
+            (subst (λ (l : List Event). IsPrefix m.0.hold.now.seen l) (sym home.1) (r.lock.each id m.0.hold here).now.begins, (λ y p. ap (often y) home.1 ∙ (r.lock.each id m.0.hold here).now.complete y p)),
+            ap (λ (l : List Event). staged m.0 l Out) (sym home.1),
+            refl,
+          )),
+          λ ne. absurd (ne hit),
+        ),
+      ))
+      (λ miss. (
+        m.0,
+        keeps,
+        tt,
+        made load r.fits r.log (set s.words 0 x) s.homes (set s.views id m.0) x (get_or s.words 1 0) hs (length-set s.words 0 x ∙ r.wide) (get_or-set_same s.words 0 x 0 (omega arith))
+            (get_or-set_other s.words 0 1 x 0 (λ e. omega arith)) (same_map hold_of s.views id m.0 m.0 at refl) r.lock
+            (keep_sides r.log s.views r.sides id m.0 at m.0 (prefix_self m.0.hold.now.seen) refl),
+        ((λ hit. absurd (miss hit)), λ _. refl),
+      ))
+
+  pub count_step : (w : Book) (new : ℕ) → m.0.hold.stage ≡ Out → m.1 ≡ (0, Some w) ∷ [] → IsRun m.0.hold.load w.log → IsPrefix m.0.hold.now.seen w.log → ((x : ℕ) → has number x m.0.hold.now.duties ≡ 0 → often x w.log ≡ often x m.0.hold.now.seen)
+      → new ≡ length w.log → 0 < slots → Allows Rule slots id m 1 (λ _. new) (λ _. Counts (step slots 1 new 0 none) m new)
+  count_step w new is carries run grown own count some_slot s r len at small = let hs : List Hold = map hold_of s.views in let here = at_map hold_of s.views id m.0 at in let wide = r.wide in let v : View = counted m.0 w.log in
+      let there : lives m.0.hold.stage ≡ 1 = ap lives is in
+      let saw = locks.holder_saw load r.log (get_or s.words 0 0) (get_or s.words 1 0) s.homes hs r.lock id m.0.hold here is in
+      let right = locks.right_load load r.log (get_or s.words 0 0) (get_or s.words 1 0) s.homes hs r.lock id m.0.hold here (omega arith) in (
+        v,
+        gives,
+        tt,
+        subst (λ (c : List (ℕ × Option Book)). Rule (stepped s 1 new id c v gives)) (sym carries)
+            (made load r.fits w.log (set s.words 1 new) (set s.homes 0 (some (Some w))) (set s.views id v) (get_or s.words 0 0) (length w.log) (set hs id v.hold) (length-set s.words 1 new ∙ r.wide)
+            (get_or-set_other s.words 1 0 new 0 (λ e. omega arith)) (get_or-set_same s.words 1 new 0 (omega arith) ∙ count) (map-set hold_of s.views id v)
+            (locks.counts load r.log (get_or s.words 0 0) (get_or s.words 1 0) s.homes hs r.lock id m.0.hold here is w (subst (λ (l : Workload). IsRun l w.log) right run) grown own (omega arith))
+            (count_sides r.log s.views r.sides id m.0 at w.log (subst (λ (l : List Event). IsPrefix l w.log) saw grown) saw (locks.holder_duty load r.log (get_or s.words 0 0) (get_or s.words 1 0) s.homes hs r.lock id m.0.hold here is) (stamped_once load w.log r.fits (subst (λ (l : Workload). IsRun l w.log) right run)))),
+        λ u carries'. (let same : w ≡ u = ap (book_at w) (sym carries ∙ carries') in (ap (λ (b : Book). counted m.0 b.log) same, ap Rattle.atomic_table.specs.Table.rest carries)),
+      )
+
+  pub free_step : m.0.hold.stage ≡ Back → Allows Rule slots id m 0 (λ _. 0) (λ _. Frees (step slots 0 0 0 none) m 0)
+  free_step is s r len at small = let hs : List Hold = map hold_of s.views in let here = at_map hold_of s.views id m.0 at in let wide = r.wide in let v : View = staged m.0 m.0.hold.now.seen Idle in (
+    v,
+    keeps,
+    tt,
+    made load r.fits r.log (set s.words 0 0) s.homes (set s.views id v) 0 (get_or s.words 1 0) (set hs id v.hold) (length-set s.words 0 0 ∙ r.wide) (get_or-set_same s.words 0 0 0 (omega arith))
+        (get_or-set_other s.words 0 1 0 0 (λ e. omega arith)) (map-set hold_of s.views id v) (locks.frees load r.log (get_or s.words 0 0) (get_or s.words 1 0) s.homes hs r.lock id m.0.hold here is)
+        (keep_sides r.log s.views r.sides id m.0 at v (prefix_self m.0.hold.now.seen) refl),
+    (refl, refl),
+  )
+
+  -- a look at the count, after which the seat has another view
+  look : (s : At) (r : Rule s) → get_elem? s.views id ≡ some m.0 → (w : View) → Locked load r.log (get_or s.words 0 0) (get_or s.words 1 0) s.homes (set (map hold_of s.views) id w.hold) → Sides r.log (set s.views id w) → Rule (stepped s 1 (get_or s.words 1 0) id m.1 w keeps)
+  look s r at w lock sides = let wide = r.wide in let x : ℕ = get_or s.words 1 0 in
+      made load r.fits r.log (set s.words 1 x) s.homes (set s.views id w) (get_or s.words 0 0) x (set (map hold_of s.views) id w.hold) (length-set s.words 1 x ∙ r.wide) (get_or-set_other s.words 1 0 x 0 (λ e. omega arith))
+      (get_or-set_same s.words 1 x 0 (omega arith)) (map-set hold_of s.views id w) lock sides
+
+  -- the same where what it holds stays
+  look_on : (s : At) (r : Rule s) → get_elem? s.views id ≡ some m.0 → (w : View) → w.hold ≡ m.0.hold → Sides r.log (set s.views id w) → Rule (stepped s 1 (get_or s.words 1 0) id m.1 w keeps)
+  look_on s r at w same sides = look s r at w
+      (subst (Locked load r.log (get_or s.words 0 0) (get_or s.words 1 0) s.homes) (sym (ap (set (map hold_of s.views) id) same ∙ set_again (map hold_of s.views) id m.0.hold (at_map hold_of s.views id m.0 at))) r.lock) sides
+
+  -- the seat names what it has seen
+  names_seen : (s : At) (r : Rule s) → get_elem? s.views id ≡ some m.0 → IsNamed m.0.hold.now.seen m.0.names
+  names_seen s r at = (r.sides.named.each id (naming_of m.0) (at_map naming_of s.views id m.0 at)).stamped
+
+  pub learn_step : Allows Rule slots id m 1 (λ x. x) (Learns (step slots 1 0 0 none) m)
+  learn_step s r len at small = let hs : List Hold = map hold_of s.views in let here = at_map hold_of s.views id m.0 at in let v : View = learnt m.0 in let f = r.lock.each id m.0.hold here in (
+    v,
+    keeps,
+    tt,
+    look s r at v (locks.forgets load r.log (get_or s.words 0 0) (get_or s.words 1 0) s.homes hs r.lock id m.0.hold here) (keep_sides r.log s.views r.sides id m.0 at v (prefix_self m.0.hold.now.seen) refl),
+    (locks.within r.log m.0.hold.left m.0.hold.now f.left f.now f.no_less.0, locks.within r.log m.0.hold.right m.0.hold.now f.right f.now f.no_less.1, names_seen s r at, refl),
+  )
+
+  pub meet_step : Allows Rule slots id m 1 (λ x. x) (Meets (step slots 1 0 0 none) m)
+  meet_step s r len at small = let here = at_map hold_of s.views id m.0 at in let x : ℕ = get_or s.words 1 0 in let count = r.lock.counted in (
+    noted m.0 (Met x),
+    keeps,
+    tt,
+    look_on s r at (noted m.0 (Met x)) refl (note_sides r.log s.views r.sides id m.0 at (Met x) (omega arith)),
+    (omega (arith, prefix_length m.0.hold.now.seen r.log (r.lock.each id m.0.hold here).now.begins), names_seen s r at, refl),
+  )
+
+  -- names at hand are placed, and lengths noted
+  pub amend_step : (ps : List Position) (ds : List ℕ) → Among place ps m.0.names.hand → Allows Rule slots id m 1 (λ x. x) (Amends ps ds (step slots 1 0 0 none) m)
+  amend_step ps ds among s r len at small = let here = at_map hold_of s.views id m.0 at in let w : View = amended ps ds m.0 in (
+    w,
+    keeps,
+    tt,
+    look_on s r at w refl (amend_sides r.log s.views r.sides id m.0 at ps ds among (r.lock.each id m.0.hold here).now.begins),
+    refl,
+  )
+
+module _ (load : Workload) (id : ℕ) (v : View) where
+  pub split_step : v.hold.stage ≡ Idle → (ds : List Duty) (hand placed : List Position) → Among number ds v.hold.now.duties → Among place hand v.names.hand → Among place placed v.names.placed
+      → NamesByDuty (kept ds hand placed v).hold.now.duties (kept ds hand placed v).names → NamesByDuty ds (names hand placed)
+      → Splits (Keeps load) id v (kept ds hand placed v) (given ds hand placed v)
+  split_step is ds hand placed among a b mine other s r at = let hs : List Hold = map hold_of s.views in let here = at_map hold_of s.views id v at in let w : View = kept ds hand placed v in let g : View = given ds hand placed v in
+      made load r.fits r.log s.words s.homes (set s.views id w ++ g ∷ []) (get_or s.words 0 0) (get_or s.words 1 0) (set hs id w.hold ++ g.hold ∷ []) r.wide refl refl
+      (map-append hold_of (set s.views id w) (g ∷ []) ∙ ap (λ l. l ++ g.hold ∷ []) (map-set hold_of s.views id w))
+      (locks.splits load r.log (get_or s.words 0 0) (get_or s.words 1 0) s.homes hs r.lock id v.hold here is ds among)
+      (split_sides r.log s.views r.sides id v at ds hand placed a b mine other)
+
+  pub join_step : v.hold.stage ≡ Idle → (other : ℕ) (w : View) → w.hold.stage ≡ Idle → Joins (Keeps load) id v other w (joined v w) spent
+  join_step is other w too s r at apart there = let hs : List Hold = map hold_of s.views in let here = at_map hold_of s.views id v at in let j : View = joined v w in let vs : List View = set s.views id j in
+      let same = map-set hold_of s.views id j in let f = r.lock.each id v.hold here in
+      let wt : get_elem? (set hs id j.hold) other ≡ some w.hold = subst (λ l. get_elem? l other ≡ some w.hold) same (at_map hold_of vs other w there) in
+      let g = r.lock.each other w.hold (sym (set_else hs id other j.hold apart) ∙ wt) in let both = locks.longer_both v.hold.now.seen w.hold.now.seen r.log f.now.begins g.now.begins in
+      made load r.fits r.log s.words s.homes (set vs other spent) (get_or s.words 0 0) (get_or s.words 1 0) (set (set hs id j.hold) other spent.hold) r.wide refl refl
+      (map-set hold_of vs other spent ∙ ap (λ l. set l other spent.hold) same)
+      (locks.joins load r.log (get_or s.words 0 0) (get_or s.words 1 0) s.homes hs r.lock id v.hold here is other w.hold apart wt too)
+      (join_sides r.log s.views r.sides id v at other w both.0 both.1 apart there)
+
+-- a closed lock: who has every duty has seen the journal, which lies in the slot
+pub closing : (load : Workload) (id : ℕ) (v : View) (words : List ℕ) (slots : List (Option Book)) → v.hold.stage ≡ Idle → Among number (all_duties load) v.hold.now.duties → Final (Seen (Keeps load) id v) words slots
+    → (w : Book) × (w.log ≡ v.hold.now.seen) × IsRun load w.log × (get_elem? slots 0 ≡ some (Some w))
+closing load id v words slots is all f = let s = f.0 in let r = f.1.0 in let at = f.1.1 in let hs : List Hold = map hold_of s.views in let here = at_map hold_of s.views id v at in
+    let c = locks.closes load r.log (get_or s.words 0 0) (get_or s.words 1 0) s.homes hs r.lock id v.hold here is all in let home = c.0 in
+    (home.0, home.1 ∙ c.1, subst (IsRun load) (sym home.1) r.lock.run, f.4 0 (Some home.0) home.2)

@@ -1,0 +1,13 @@
+use Rattle.std.proofs.Common.{rules, ◌≡◌, List, ℕ, sym, ap, ◌∙◌, subst, Some, Option, [], ◌∷◌}
+use Rattle.atomic_table.specs.Table.{opening}
+use Rattle.journal_lock.specs.Law.{Book, fresh}
+use Rattle.journal_lock.specs.Rule.{Keeps}
+use Rattle.journal_lock.proofs.Numbers.{each_once}
+use Rattle.journal_lock.proofs.Steps.{first_state}
+use Rattle.journal_lock.proofs.lock.JournalLock.new.Goals as goal
+
+pub new-requires-2 : goal.new-requires-2
+new-requires-2 c =
+    let load = c.args.workload in let w = c.new.result in
+    let items : c.push_reserved.new.self.items ≡ Some w ∷ [] = search rules in
+    subst (λ (z : List (Option Book)). Keeps load (opening (0 ∷ 0 ∷ []) z (fresh load))) (sym items) (first_state load c.requires w (each_once load c.requires.few) c.new.ensures tt)

@@ -1,0 +1,67 @@
+-- The part of the rule on names, and what the looks at the count tell.
+use Rattle.std.specs.Prelude.{◌≡◌, ℕ, ◌+◌, ◌<◌, ◌≤◌, List, [], ◌∷◌, ◌++◌, map, length, Option}
+use mathlib.Core.Option.{some}
+use lib.ListN.{get_elem?}
+use Rattle.atomic_table.specs.Table.{Step}
+use Rattle.abstract_log.specs.declared.event.Event.{Event}
+use Rattle.journal_lock.specs.declared.duty.Duty.{Duty}
+use Rattle.journal_lock.specs.declared.duty.Position.{Position}
+use Rattle.journal_lock.specs.declared.law.Names.{Names}
+use Rattle.journal_lock.specs.declared.law.Note.{Note}
+use Rattle.journal_lock.specs.declared.law.Note.TheVariants.{Met, Length}
+use Rattle.journal_lock.specs.declared.law.View.{View}
+use Rattle.journal_lock.specs.Duties.{place, datacentre, has, minus, stamped, HasDuty}
+use Rattle.journal_lock.specs.Law.{Book, total, Sat, names, learnt, Within}
+use Rattle.journal_lock.specs.Notes.{noted}
+
+-- how often a position is named
+abbrev pub named : ℕ → Names → ℕ
+named p x = has place p x.hand + has place p x.placed
+
+-- no position is named more often than it is stamped in what was seen
+abbrev pub IsNamed : List Event → Names → Type 0
+IsNamed seen x = (p : ℕ) → named p x ≤ has place p (stamped seen)
+
+-- who names a position has a duty
+abbrev pub NamesByDuty : List Duty → Names → Type 0
+NamesByDuty ds x = (p : ℕ) → 0 < named p x → HasDuty ds
+
+-- what a view has seen, its duties, and what it names
+abbrev pub Naming : Type 0
+Naming = List Event × List Duty × Names
+
+pub record FitsNames (x : Naming) : Type 0 where
+  pub stamped : IsNamed x.0 x.2
+  pub by_duty : NamesByDuty x.1 x.2
+
+-- each position is stamped once at most, over all views it is named no more often, and each pass names what it has seen
+pub record Named (log : List Event) (xs : List Naming) : Type 0 where
+  pub single : (p : ℕ) → has place p (stamped log) ≤ 1
+  pub once : (p : ℕ) → total (λ (x : Naming). named p x.2) xs ≤ has place p (stamped log)
+  pub each : (j : ℕ) (x : Naming) → get_elem? xs j ≡ some x → FitsNames x
+
+abbrev pub naming_of : View → Naming
+naming_of v = (v.hold.now.seen, v.hold.now.duties, v.names)
+
+-- these positions are placed
+abbrev pub put : List Position → Names → Names
+put ps x = names (minus place x.hand ps) (ps ++ x.placed)
+
+-- how long the logs of these datacentres are
+abbrev pub lengths_of : List ℕ → List Event → List Note
+lengths_of ds seen = map (λ d. Length d (has datacentre d (stamped seen))) ds
+
+-- these positions are placed, and these lengths are noted
+abbrev pub amended : List Position → List ℕ → View → View
+amended ps ds v = record { hold = v.hold; notes = lengths_of ds v.hold.now.seen ++ v.notes; names = put ps v.names }
+
+abbrev pub Amends : List Position → List ℕ → Step (Option Book) → Sat → ℕ → Sat → Type 0
+Amends ps ds st m found m' = m' ≡ (amended ps ds m.0, m.1)
+
+abbrev pub Meets : Step (Option Book) → Sat → ℕ → Sat → Type 0
+Meets st m found m' = (length m.0.hold.now.seen ≤ found) × IsNamed m.0.hold.now.seen m.0.names × (m' ≡ (noted m.0 (Met found), m.1))
+
+abbrev pub Learns : Step (Option Book) → Sat → ℕ → Sat → Type 0
+Learns st m found m' =
+    Within m.0.hold.left.duties m.0.hold.left.seen m.0.hold.now.seen × Within m.0.hold.right.duties m.0.hold.right.seen m.0.hold.now.seen
+    × IsNamed m.0.hold.now.seen m.0.names × (m' ≡ (learnt m.0, m.1))

@@ -1,0 +1,185 @@
+//! The rule of the table under the lock, what each pass knows, and what each step tells.
+use crate::duty::{Duty, Position};
+use crate::journal::Journal;
+use abstract_log::{Event, Workload};
+use atomic_table::{Join, Play, Split, TableRule};
+use cz_base::DcId;
+use std::collections::LinkedList;
+use std::marker::{Brand, PhantomData};
+
+/// Where a pass stands at the turn. No value of it is made.
+pub enum Stage {
+    Idle,
+    /// It has the turn and the slot.
+    Out,
+    /// It has the turn, and the slot is home again.
+    Back,
+    /// Another pass took it in.
+    Spent,
+}
+
+/// A beginning of the journal, and the duties of which it has all events. No value of it is made.
+pub struct Known {
+    pub seen: LinkedList<Event>,
+    pub duties: LinkedList<Duty>,
+}
+
+/// Where a pass stands, and what it knows of the journal. No value of it is made.
+pub struct Hold {
+    /// What the journal is a run on.
+    pub load: Workload,
+    pub now: Known,
+    /// What the two passes knew that became this one. It is nothing between two calls.
+    pub left: Known,
+    pub right: Known,
+    pub stage: Stage,
+}
+
+/// What a pass was told, which stays true. No value of it is made.
+pub enum Note {
+    /// The journal had so many events.
+    Met { count: u64 },
+    /// The log of a datacentre had so many records.
+    Length { dc: DcId, len: u64 },
+}
+
+/// Positions in the journal, which no other pass names. No value of it is made.
+pub struct Names {
+    /// On their way to their maintainers.
+    pub hand: LinkedList<Position>,
+    /// At their maintainers.
+    pub placed: LinkedList<Position>,
+}
+
+/// What a pass knows. No value of it is made.
+pub struct View {
+    pub hold: Hold,
+    pub notes: LinkedList<Note>,
+    pub names: Names,
+}
+
+/// Word 0 is the turn, 0 or 1, and word 1 counts the events. The slot holds the journal.
+pub(crate) struct Law;
+
+impl TableRule<Option<Journal>, View, Workload> for Law {
+    ghost use Rattle.journal_lock.specs.Law.{fresh};
+    ghost use Rattle.journal_lock.specs.Rule.{Keeps};
+
+    ghost holds = { Keeps };
+
+    ghost first = { fresh };
+}
+
+pub(crate) struct Take;
+
+impl Play<Option<Journal>, View> for Take {
+    ghost use Rattle.journal_lock.specs.Law.{Takes};
+
+    ghost then = { Takes };
+}
+
+pub(crate) struct Count;
+
+impl Play<Option<Journal>, View> for Count {
+    ghost use Rattle.journal_lock.specs.Law.{Counts};
+
+    ghost then = { Counts };
+}
+
+pub(crate) struct Free;
+
+impl Play<Option<Journal>, View> for Free {
+    ghost use Rattle.journal_lock.specs.Law.{Frees};
+
+    ghost then = { Frees };
+}
+
+pub(crate) struct Learn;
+
+impl Play<Option<Journal>, View> for Learn {
+    ghost use Rattle.journal_lock.specs.Names.{Learns};
+
+    ghost then = { Learns };
+}
+
+pub(crate) struct Meet;
+
+impl Play<Option<Journal>, View> for Meet {
+    ghost use Rattle.journal_lock.specs.Names.{Meets};
+
+    ghost then = { Meets };
+}
+
+/// What goes to a new pass, for contracts alone: the caller picks it at the call.
+pub trait Part {
+    ghost use Rattle.std.specs.Prelude.{List};
+    ghost use Rattle.journal_lock.specs.declared.duty.Duty.{Duty};
+    ghost use Rattle.journal_lock.specs.declared.duty.Position.{Position};
+
+    ghost duties: { List Duty };
+
+    ghost hand: { List Position };
+
+    ghost placed: { List Position };
+}
+
+impl Part for Brand {
+    ghost use Rattle.std.specs.Prelude.{[]};
+
+    ghost duties = { [] };
+
+    ghost hand = { [] };
+
+    ghost placed = { [] };
+}
+
+/// What a pass changes of its names, and the datacentres of whose logs it notes the length, for contracts alone:
+/// the caller picks it at the call.
+pub trait Change {
+    ghost use Rattle.std.specs.Prelude.{ℕ, List};
+    ghost use Rattle.journal_lock.specs.declared.duty.Position.{Position};
+
+    ghost placed: { List Position };
+
+    ghost lengths: { List ℕ };
+}
+
+impl Change for Brand {
+    ghost use Rattle.std.specs.Prelude.{[]};
+
+    ghost placed = { [] };
+
+    ghost lengths = { [] };
+}
+
+pub(crate) struct Amend<C> {
+    change: PhantomData<C>,
+}
+
+impl<C: Change> Play<Option<Journal>, View> for Amend<C> {
+    ghost use Rattle.journal_lock.specs.Names.{Amends};
+
+    ghost then = { Amends C.placed C.lengths };
+}
+
+pub(crate) struct Cut<P> {
+    part: PhantomData<P>,
+}
+
+impl<P: Part> Split<View> for Cut<P> {
+    ghost use Rattle.journal_lock.specs.Law.{kept, given};
+
+    ghost left = { kept P.duties P.hand P.placed };
+
+    ghost right = { given P.duties P.hand P.placed };
+}
+
+pub(crate) struct Glue;
+
+impl Join<View> for Glue {
+    ghost use Rattle.journal_lock.specs.Law.{joined, spent};
+
+    ghost both = { joined };
+
+    ghost spent = { spent };
+}

@@ -1,0 +1,39 @@
+//! The journal lock: one journal of events for all threads, which is a run at every moment.
+//!
+//! Threads share a `JournalLock` and each has a `Pass`, which stands for what it knows: a beginning of the journal,
+//! and duties. A duty is with one pass at most, and all events that need it stand in the beginning that this pass
+//! has seen. Who takes the turn is a `Holder`, has the whole journal in hand, and adds events for which it has the
+//! duties, each a step from the world that the journal leaves.
+//!
+//! Model: a table of two words, the turn and the number of events, and a slot for the journal. `specs/Law.antt`
+//! has the rule over these and over what all passes know. Sums over the passes say that each duty is with one.
+//!
+//! For the layers above: the journal is a run on the workload, what a pass has seen is a beginning of it, and what
+//! a pass sees later has no event of its duties that it had not seen (`Within`). `close` asks for every duty, and
+//! gives just what that pass has seen. A position that an event stamps is named by one pass at most, at hand or
+//! placed. A call that only looks leaves a note of what it found.
+//!
+//! Decided: a pass is joined in two steps, the join itself and a look at the count, since a join tells nothing of
+//! the rule. The workload stands in each pass too, since a step cannot read what the table was told. Duties move by
+//! numbers, which are different for different duties where datacentres are below 8 and members below 16.
+//!
+//! Not here yet: marks, epochs and what is known of heads; pins.
+//!
+//! `both` has a contract of two threads. There are no tests in this crate.
+#![tactic(auto)]
+
+mod both;
+mod duty;
+mod journal;
+mod law;
+pub mod laws;
+mod lock;
+mod parts;
+mod room;
+
+pub use both::{begin_both, begin_session};
+pub use duty::{Duty, Position};
+pub use law::{Change, Hold, Known, Names, Note, Part, Stage, View};
+pub use lock::{Holder, JournalLock, Pass, Tried};
+pub use parts::{note_length, place_hand, split_bare, split_duty, split_session, split_whole};
+pub use room::Room;
