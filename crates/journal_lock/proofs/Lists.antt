@@ -1,5 +1,5 @@
 -- Sums over the views, prefixes, lists of duties and positions, and what events need and fill.
-use Rattle.std.proofs.Common.{◌≡◌, ◌≢◌, ℕ, zero, suc, ◌+◌, ◌-◌, ◌<◌, ◌≤◌, ◌==◌, Bool, true, false, cond, List, [], ◌∷◌, ◌++◌, map, length, drop, set, refl, ap, sym, ◌∙◌, subst, arith, le_refl, append_assoc, length-append}
+use Rattle.std.proofs.Common.{◌≡◌, ◌≢◌, ℕ, zero, suc, ◌+◌, ◌<◌, ◌≤◌, ◌==◌, Bool, true, false, cond, List, [], ◌∷◌, ◌++◌, length, drop, set, refl, ap, sym, ◌∙◌, arith, le_refl, append_assoc, length-append}
 use Rattle.std.proofs.lemmas.Bool.Decides.{nat_tests}
 use Rattle.std.proofs.lemmas.List.Sums.{sum_by-append, sum_by-cons}
 use mathlib.Core.Option.{some, some-injective, some-ne-none}
@@ -8,9 +8,9 @@ use lib.ListN.{get_elem?}
 use Rattle.abstract_log.specs.declared.event.Event.{Event}
 use Rattle.abstract_log.specs.declared.event.Event.TheVariants.{Submit, Append, Receive, Add, Learn, Reply, Collect}
 use Rattle.journal_lock.specs.declared.duty.Duty.{Duty}
-use Rattle.journal_lock.specs.declared.duty.Duty.TheVariants.{Token, Table, Batcher, Queue, Maintainer, Filter, Session, Draft}
+use Rattle.journal_lock.specs.declared.duty.Duty.TheVariants.{Token, Table, Session, Draft}
 use Rattle.journal_lock.specs.declared.duty.Position.{Position}
-use Rattle.journal_lock.specs.Duties.{number, place, has, without, minus, Among, often, duties_of, positions_of, stamped}
+use Rattle.journal_lock.specs.Duties.{number, has, without, minus, Among, often, duties_of, positions_of, stamped}
 use Rattle.journal_lock.specs.Law.{total}
 
 -- the sum after a change of one

@@ -1,5 +1,5 @@
 -- What each kind of step does to the part of the rule on notes.
-use Rattle.std.proofs.Common.{◌≡◌, ◌≢◌, ℕ, zero, suc, ◌<◌, ◌≤◌, ◌⊎◌, List, [], ◌∷◌, ◌++◌, length, set, refl, ap, sym, ◌∙◌, subst, ⊎_elim, arith}
+use Rattle.std.proofs.Common.{◌≡◌, ◌≢◌, ℕ, zero, suc, List, [], ◌∷◌, ◌++◌, set, sym, ◌∙◌, subst, ⊎_elim, arith}
 use mathlib.Core.Option.{some, some-injective}
 use mathlib.Core.List.{IsPrefix}
 use lib.ListN.{get_elem?}
@@ -7,7 +7,7 @@ use Rattle.atomic_table.proofs.Lists.{at_set, set_else, at_snoc}
 use Rattle.abstract_log.specs.declared.event.Event.{Event}
 use Rattle.journal_lock.specs.declared.law.Note.{Note}
 use Rattle.journal_lock.specs.declared.law.Note.TheVariants.{Met, Length}
-use Rattle.journal_lock.specs.Duties.{datacentre, has, stamped}
+use Rattle.journal_lock.specs.Duties.{datacentre}
 use Rattle.journal_lock.specs.Notes.{IsTrue, AllTrue, Noted}
 use Rattle.journal_lock.specs.Names.{lengths_of}
 use Rattle.journal_lock.proofs.Lists.{prefix_length, stamped_prefix}

@@ -1,5 +1,5 @@
 -- What each kind of step does to the part of the rule on names.
-use Rattle.std.proofs.Common.{◌≡◌, ◌≢◌, ℕ, zero, suc, ◌+◌, ◌-◌, ◌<◌, ◌≤◌, ◌⊎◌, List, [], ◌∷◌, ◌++◌, length, drop, set, refl, ap, sym, ◌∙◌, subst, ⊎_elim, arith}
+use Rattle.std.proofs.Common.{◌≡◌, ◌≢◌, ℕ, zero, suc, ◌+◌, ◌≤◌, List, [], ◌∷◌, ◌++◌, length, drop, set, ap, sym, ◌∙◌, subst, ⊎_elim, arith}
 use mathlib.Core.Logic.{dite}
 use mathlib.Core.Option.{some, some-injective}
 use mathlib.Core.List.{IsPrefix}
@@ -9,10 +9,9 @@ use Rattle.atomic_table.proofs.Lists.{at_set, set_else, at_snoc}
 use Rattle.abstract_log.specs.declared.event.Event.{Event}
 use Rattle.journal_lock.specs.declared.duty.Duty.{Duty}
 use Rattle.journal_lock.specs.declared.duty.Position.{Position}
-use Rattle.journal_lock.specs.declared.law.Names.{Names}
 use Rattle.journal_lock.specs.Duties.{number, place, has, minus, stamped, Among, HasDuty}
-use Rattle.journal_lock.specs.Law.{total, names}
-use Rattle.journal_lock.specs.Names.{named, IsNamed, Naming, FitsNames, Named, NamesByDuty, put}
+use Rattle.journal_lock.specs.Law.{names}
+use Rattle.journal_lock.specs.Names.{named, Naming, FitsNames, Named, NamesByDuty, put}
 use Rattle.journal_lock.proofs.Lists.{total_set, total_snoc, total_two, stamped_more, stamped_prefix, has_append, has_minus}
 
 abbrev name_of : ℕ → Naming → ℕ

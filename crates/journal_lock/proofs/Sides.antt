@@ -1,5 +1,5 @@
 -- The parts of the rule beside the lock's own, at the steps of the lock. A new part is added here, and no step of the lock is opened.
-use Rattle.std.proofs.Common.{◌≡◌, ◌≢◌, ℕ, ◌+◌, ◌-◌, ◌<◌, ◌≤◌, List, [], ◌∷◌, ◌++◌, map, length, drop, set, refl, ap, sym, ◌∙◌, subst, arith}
+use Rattle.std.proofs.Common.{◌≡◌, ◌≢◌, ℕ, ◌≤◌, List, [], ◌∷◌, ◌++◌, map, length, drop, set, refl, ap, sym, ◌∙◌, subst}
 use mathlib.Core.Option.{some}
 use mathlib.Core.List.{IsPrefix, map-append}
 use lib.ListN.{get_elem?}
@@ -12,12 +12,11 @@ use Rattle.journal_lock.specs.declared.duty.Position.{Position}
 use Rattle.journal_lock.specs.declared.law.Note.{Note}
 use Rattle.journal_lock.specs.declared.law.Names.{Names}
 use Rattle.journal_lock.specs.declared.law.View.{View}
-use Rattle.journal_lock.specs.Duties.{number, place, has, stamped, minus, Among, HasDuty}
-use Rattle.journal_lock.specs.Law.{fresh, spent, kept, given, joined, names, counted, staged, longer}
+use Rattle.journal_lock.specs.Duties.{place, has, stamped, Among, HasDuty}
+use Rattle.journal_lock.specs.Law.{fresh, spent, kept, given, joined, names, counted, longer}
 use Rattle.journal_lock.specs.Notes.{IsTrue, Noted, notes_of, noted}
-use Rattle.journal_lock.specs.Names.{Naming, Named, NamesByDuty, put, naming_of, amended, lengths_of}
+use Rattle.journal_lock.specs.Names.{Named, NamesByDuty, naming_of, amended, lengths_of}
 use Rattle.journal_lock.specs.Rule.{Sides}
-use Rattle.journal_lock.proofs.Lists.{prefix_self}
 use Rattle.journal_lock.proofs.Notices as notices
 use Rattle.journal_lock.proofs.Places as places
 

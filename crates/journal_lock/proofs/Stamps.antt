@@ -1,9 +1,9 @@
 -- In a run each position of a log is stamped once, and no other is.
-use Rattle.std.proofs.Common.{◌≡◌, ◌≢◌, ℕ, zero, suc, ◌+◌, ◌*◌, ◌/◌, ◌%◌, ◌<◌, ◌≤◌, ◌==◌, cond, nat_le, true, List, [], ◌∷◌, ◌++◌, length, get_or, set, map, replicate, Option, Some, None, IsSomeAnd, refl, ap, sym, ◌∙◌, subst, arith, length-append, length-set, get_or-set_other, get_or-set_same, option_map, option_and_then, option_to_list, div-add-mod'}
+use Rattle.std.proofs.Common.{◌≡◌, ◌≢◌, ℕ, zero, suc, ◌+◌, ◌*◌, ◌/◌, ◌%◌, ◌<◌, ◌≤◌, ◌==◌, cond, true, List, [], ◌∷◌, ◌++◌, length, get_or, set, replicate, Option, Some, None, IsSomeAnd, refl, ap, sym, ◌∙◌, arith, length-append, length-set, get_or-set_other, get_or-set_same, option_map, option_and_then, option_to_list, div-add-mod'}
 use Rattle.std.proofs.lemmas.Bool.Decides.{nat_tests}
-use Rattle.std.proofs.lemmas.List.{length-map, length-replicate, get_or-replicate}
+use Rattle.std.proofs.lemmas.List.{length-map, length-replicate}
 use mathlib.Core.Logic.{dite}
-use native.Mathlib.Decide.{ℕ_discrete, dec_le}
+use native.Mathlib.Decide.{ℕ_discrete}
 use Rattle.causal_deps.specs.declared.record.Record.{Record}
 use Rattle.causal_deps.specs.declared.record.Draft.{Draft}
 use Rattle.causal_deps.specs.Logs.{sealed}
@@ -18,7 +18,6 @@ use Rattle.abstract_log.specs.Worlds.{log_of, record_of, standing_of, open_comma
 use Rattle.abstract_log.specs.Shapes.{FitsWorkload}
 use Rattle.abstract_log.specs.Steps.{CanHappen, after, written, logs_with}
 use Rattle.abstract_log.specs.Runs.{IsRun, CanAllHappen, after_all, world_of}
-use Rattle.journal_lock.specs.declared.duty.Position.{Position}
 use Rattle.journal_lock.specs.Duties.{place, datacentre, has, positions_of, stamped, is_inside}
 use Rattle.journal_lock.proofs.Lists.{has_append, has_cons}
 

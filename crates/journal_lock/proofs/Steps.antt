@@ -1,9 +1,9 @@
 -- Each kind of step keeps the whole rule.
-use Rattle.std.proofs.Common.{◌≡◌, ◌≢◌, ℕ, eqb, zero, suc, ◌+◌, ◌-◌, ◌<◌, ◌≤◌, List, [], ◌∷◌, ◌++◌, map, length, get_or, set, refl, ap, sym, ◌∙◌, subst, arith, Some, None, Option, length-set, get_or-set_other, get_or-set_same}
+use Rattle.std.proofs.Common.{◌≡◌, ℕ, eqb, ◌<◌, ◌≤◌, List, [], ◌∷◌, ◌++◌, map, length, get_or, set, refl, ap, sym, ◌∙◌, subst, arith, Some, None, Option, length-set, get_or-set_other, get_or-set_same}
 use mathlib.Core.Option.{some, none}
 use mathlib.Core.List.{IsPrefix, map-append}
 use lib.ListN.{get_elem?}
-use lib.Seq.{map-set, set-get_or}
+use lib.Seq.{map-set}
 use prog.Atomic.{either}
 use Rattle.atomic_table.specs.Table.{State, Me, step, Act, keeps, takes, gives, stepped, carried_after, Valid, Allows, Splits, Joins, opening, Final, Seen}
 use Rattle.atomic_table.proofs.Lists.{set_again, set_else, at_map, exchanged}
@@ -13,13 +13,12 @@ use Rattle.abstract_log.specs.Shapes.{FitsWorkload}
 use Rattle.abstract_log.specs.Runs.{IsRun}
 use Rattle.journal_lock.specs.declared.duty.Duty.{Duty}
 use Rattle.journal_lock.specs.declared.duty.Position.{Position}
-use Rattle.journal_lock.specs.declared.law.Stage.{Stage}
-use Rattle.journal_lock.specs.declared.law.Stage.TheVariants.{Idle, Out, Back, Spent}
+use Rattle.journal_lock.specs.declared.law.Stage.TheVariants.{Idle, Out, Back}
 use Rattle.journal_lock.specs.declared.law.Hold.{Hold}
 use Rattle.journal_lock.specs.declared.law.Note.TheVariants.{Met}
 use Rattle.journal_lock.specs.declared.law.View.{View}
-use Rattle.journal_lock.specs.Duties.{number, place, has, minus, Among, often, all_duties, HasDuty}
-use Rattle.journal_lock.specs.Law.{Book, total, busy, away, lives, Fits, Homes, Home, Locked, hold_of, At, Sat, fresh, spent, kept, given, joined, names, with_names, counted, learnt, staged, plain, known, Took, Takes, Counts, Frees}
+use Rattle.journal_lock.specs.Duties.{number, place, has, Among, often, all_duties, HasDuty}
+use Rattle.journal_lock.specs.Law.{Book, lives, Homes, Locked, hold_of, At, Sat, fresh, spent, kept, given, joined, names, counted, learnt, staged, Takes, Counts, Frees}
 use Rattle.journal_lock.specs.Notes.{noted}
 use Rattle.journal_lock.specs.Names.{IsNamed, NamesByDuty, naming_of, amended, Amends, Meets, Learns}
 use Rattle.journal_lock.specs.Rule.{Sides, Keeps}

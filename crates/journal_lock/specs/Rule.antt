@@ -1,5 +1,5 @@
 -- The whole rule: its parts, each over the words, the slot and what of the views it speaks of.
-use Rattle.std.specs.Prelude.{◌≡◌, ℕ, List, map, length, slice_index}
+use Rattle.std.specs.Prelude.{◌≡◌, List, map, length, slice_index}
 use Rattle.abstract_log.specs.declared.command.Workload.{Workload}
 use Rattle.abstract_log.specs.declared.event.Event.{Event}
 use Rattle.abstract_log.specs.Shapes.{FitsWorkload}

@@ -1,5 +1,5 @@
 -- What an attempt at the turn gives.
-use Rattle.std.specs.Prelude.{◌≡◌, ◌≢◌, ℕ}
+use Rattle.std.specs.Prelude.{◌≡◌, ◌≢◌}
 use Rattle.abstract_log.specs.Runs.{IsRun}
 use Rattle.journal_lock.specs.declared.lock.Tried.{Tried}
 use Rattle.journal_lock.specs.declared.lock.Tried.TheVariants.{Held, Busy}

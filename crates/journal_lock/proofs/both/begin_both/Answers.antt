@@ -1,10 +1,8 @@
-use Rattle.std.proofs.Common.{◌≡◌, ◌<◌, ℕ, ap, sym, ◌∙◌, arith, List, subst, [], ◌∷◌, ◌++◌}
-use Rattle.abstract_log.specs.declared.command.Workload.{Workload}
-use Rattle.abstract_log.specs.declared.event.Event.{Event}
+use Rattle.std.proofs.Common.{◌≡◌, ap, sym, ◌∙◌, List, subst, ◌++◌}
 use Rattle.journal_lock.specs.declared.duty.Duty.{Duty}
 use Rattle.journal_lock.specs.declared.duty.Duty.TheVariants.{Session}
-use Rattle.journal_lock.specs.Duties.{number, has, minus, often, all_duties, Among}
-use Rattle.journal_lock.specs.Law.{SameFor, HasCommands}
+use Rattle.journal_lock.specs.Duties.{number, minus, often, all_duties, Among}
+use Rattle.journal_lock.specs.Law.{SameFor}
 use Rattle.journal_lock.specs.Passes.{Ticket}
 use Rattle.journal_lock.proofs.Places.{no_names}
 use Rattle.journal_lock.proofs.Pairs.{session_of, first_there, second_there, all_again, both_once}

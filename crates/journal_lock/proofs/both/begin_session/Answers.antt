@@ -1,11 +1,8 @@
-use Rattle.std.proofs.Common.{◌≡◌, ◌<◌, ℕ, List, ap, sym, subst, ◌∙◌, arith, le_refl, [], ◌∷◌}
-use Rattle.abstract_log.specs.declared.event.Event.TheVariants.{Submit}
+use Rattle.std.proofs.Common.{◌≡◌, ◌<◌, List, ap, sym, subst, ◌∙◌, le_refl}
 use Rattle.abstract_log.specs.declared.command.Workload.{Workload}
-use Rattle.abstract_log.specs.Runs.{world_of}
-use Rattle.abstract_log.specs.Steps.{CanHappen}
 use Rattle.journal_lock.specs.declared.duty.Duty.{Duty}
 use Rattle.journal_lock.specs.declared.duty.Duty.TheVariants.{Session}
-use Rattle.journal_lock.specs.Duties.{number, has, often, Among, duties_of}
+use Rattle.journal_lock.specs.Duties.{number, has, often, Among}
 use Rattle.journal_lock.specs.Law.{HasCommands}
 use Rattle.journal_lock.specs.Passes.{Hand}
 use Rattle.journal_lock.proofs.Pairs.{can_begin, begun_once, has_session, session_of}

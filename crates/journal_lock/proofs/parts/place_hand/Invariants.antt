@@ -1,4 +1,4 @@
-use Rattle.std.proofs.Common.{[], ◌∷◌}
+use Rattle.std.proofs.Common.{[]}
 use Rattle.journal_lock.proofs.parts.place_hand.Given as goal
 
 -- all positions at hand

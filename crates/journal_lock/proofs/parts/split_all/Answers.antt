@@ -1,8 +1,8 @@
-use Rattle.std.proofs.Common.{◌≡◌, ◌+◌, ◌<◌, ℕ, List, sym, subst, arith}
+use Rattle.std.proofs.Common.{List, sym, subst, arith}
 use Rattle.journal_lock.specs.declared.duty.Position.{Position}
-use Rattle.journal_lock.specs.Duties.{number, place, has, minus, HasDuty}
+use Rattle.journal_lock.specs.Duties.{number, place, minus}
 use Rattle.journal_lock.specs.Law.{names}
-use Rattle.journal_lock.specs.Names.{named, NamesByDuty}
+use Rattle.journal_lock.specs.Names.{NamesByDuty}
 use Rattle.journal_lock.proofs.Lists.{nothing_left}
 use Rattle.journal_lock.proofs.parts.split_all.Goals as goal
 

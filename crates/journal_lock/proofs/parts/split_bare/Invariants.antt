@@ -1,4 +1,4 @@
-use Rattle.std.proofs.Common.{[], ◌∷◌}
+use Rattle.std.proofs.Common.{[]}
 use Rattle.journal_lock.proofs.parts.split_bare.Given as goal
 
 -- nothing

@@ -1,4 +1,4 @@
-use Rattle.std.proofs.Common.{rules, arith, ◌≡◌, ℕ, sym, subst, ◌∙◌, ap, Some, [], ◌∷◌}
+use Rattle.std.proofs.Common.{rules, arith, ◌≡◌, ℕ, sym, subst, ◌∙◌, ap, Some, ◌∷◌}
 use mathlib.Core.List.{IsPrefix}
 use Rattle.abstract_log.specs.Runs.{IsRun}
 use Rattle.atomic_table.specs.Table.{rest}

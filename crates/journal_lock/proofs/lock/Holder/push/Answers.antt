@@ -1,5 +1,4 @@
-use Rattle.std.proofs.Common.{◌≡◌, ◌<◌, ℕ, List, [], ◌∷◌, ◌++◌, refl, sym, subst, ap, ◌∙◌}
-use Rattle.abstract_log.specs.declared.command.Workload.{Workload}
+use Rattle.std.proofs.Common.{List, [], ◌∷◌, ◌++◌, refl, sym, subst, ap}
 use Rattle.abstract_log.specs.Runs.{world_of}
 use Rattle.abstract_log.specs.Steps.{CanHappen}
 use Rattle.journal_lock.specs.declared.duty.Duty.{Duty}

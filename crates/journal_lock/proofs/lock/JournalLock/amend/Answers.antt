@@ -1,4 +1,4 @@
-use Rattle.std.proofs.Common.{rules, arith, List, ℕ, sym, subst, ap}
+use Rattle.std.proofs.Common.{rules, arith, List, sym, subst, ap}
 use Rattle.journal_lock.specs.declared.duty.Position.{Position}
 use Rattle.journal_lock.specs.Duties.{place, Among}
 use Rattle.journal_lock.proofs.Steps.{amend_step}

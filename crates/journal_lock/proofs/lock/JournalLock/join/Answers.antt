@@ -1,4 +1,4 @@
-use Rattle.std.proofs.Common.{rules, arith, ℕ, List, subst, ap, ◌∙◌, sym}
+use Rattle.std.proofs.Common.{rules, arith, List, subst, ap, ◌∙◌, sym}
 use Rattle.abstract_log.specs.declared.event.Event.{Event}
 use Rattle.journal_lock.specs.declared.duty.Duty.{Duty}
 use Rattle.journal_lock.specs.declared.law.Names.{Names}

@@ -1,4 +1,4 @@
-use Rattle.std.proofs.Common.{rules, ◌≡◌, List, ℕ, sym, ap, ◌∙◌, subst, Some, Option, [], ◌∷◌}
+use Rattle.std.proofs.Common.{rules, ◌≡◌, List, sym, subst, Some, Option, [], ◌∷◌}
 use Rattle.atomic_table.specs.Table.{opening}
 use Rattle.journal_lock.specs.Law.{Book, fresh}
 use Rattle.journal_lock.specs.Rule.{Keeps}

@@ -1,4 +1,4 @@
-use Rattle.std.proofs.Common.{rules, arith, ℕ, List, sym, subst, ap}
+use Rattle.std.proofs.Common.{rules, arith, sym, subst}
 use Rattle.journal_lock.specs.Passes.{Ticket}
 use Rattle.journal_lock.specs.Duties.{number, place, minus, Among}
 use Rattle.journal_lock.specs.Law.{names}

@@ -1,4 +1,4 @@
-use Rattle.std.proofs.Common.{rules, arith, ◌≡◌, ℕ, List, sym, subst, ◌∙◌, ap, refl, Some, Option, [], ◌∷◌}
+use Rattle.std.proofs.Common.{rules, arith, ◌≡◌, List, sym, subst, ◌∙◌, ap, Some, [], ◌∷◌}
 use Rattle.atomic_table.specs.Table.{rest}
 use Rattle.abstract_log.specs.declared.command.Workload.{Workload}
 use Rattle.abstract_log.specs.declared.event.Event.{Event}
