@@ -1,5 +1,6 @@
 //! What a pass knows of the world by its duties. Each law is a function that does nothing: its contract is the law.
 ghost use Rattle.std.specs.Prelude.{◌≡◌, ℕ, ◌+◌, ◌*◌, ◌<◌, ◌≤◌, List, length};
+ghost use Rattle.cz_base.specs.declared.limits.TheConstants.{DATACENTRES};
 ghost use Rattle.abstract_log.specs.declared.command.Workload.{Workload};
 ghost use Rattle.abstract_log.specs.declared.event.Event.{Event};
 ghost use Rattle.abstract_log.specs.Worlds.{log_of, table_of, gone_of, standing_of};
@@ -29,7 +30,7 @@ pub fn tables_stand_still()
 
 /// The positions that a run stamps are those of the logs that it leaves, each once.
 pub fn positions_are_stamped_once()
-    ensures stamped { (load : Workload) (log : List Event) (p : Position) → FitsWorkload load → IsRun load log → p.dc < 8 → has place (place p) (stamped log) ≡ is_inside (length (log_of (world_of load log) p.dc)) p.lid }
+    ensures stamped { (load : Workload) (log : List Event) (p : Position) → FitsWorkload load → IsRun load log → p.dc < DATACENTRES → has place (place p) (stamped log) ≡ is_inside (length (log_of (world_of load log) p.dc)) p.lid }
     ensures once { (load : Workload) (log : List Event) (x : ℕ) → FitsWorkload load → IsRun load log → has place x (stamped log) ≤ 1 }
 {}
 
