@@ -8,15 +8,12 @@ use Rattle.abstract_log.specs.declared.world.World.{World}
 use Rattle.abstract_log.specs.Worlds.{log_of, table_of, gone_of, standing_of, nowhere, start}
 use Rattle.abstract_log.specs.Steps.{after}
 use Rattle.abstract_log.specs.Runs.{after_all, world_of}
+use Rattle.log_laws.proofs.Runs.{after_all-append}
 use Rattle.journal_lock.specs.declared.duty.Duty.{Duty}
 use Rattle.journal_lock.specs.declared.duty.Duty.TheVariants.{Token, Table, Session, Draft}
 use Rattle.journal_lock.specs.Duties.{number, has, often, duties_of}
 use Rattle.journal_lock.specs.Law.{Within}
 use Rattle.journal_lock.proofs.Lists.{has_self, has_cons, often_append}
-
-pub after_all-append : (w : World) (es fs : List Event) → after_all w (es ++ fs) ≡ after_all (after_all w es) fs
-after_all-append w [] fs = refl
-after_all-append w (e ∷ es) fs = after_all-append (after w e) es fs
 
 -- where no single event without the duty x changes f, no list of them does
 pub stays : {A : Type 0} (f : World → A) (x : ℕ) → ((w : World) (e : Event) → has number x (duties_of e) ≡ 0 → f (after w e) ≡ f w) → (w : World) (es : List Event) → often x es ≡ 0 → f (after_all w es) ≡ f w
