@@ -1,6 +1,6 @@
-use Rattle.chariots_program.proofs.Complete.{complete, generated_complete, words_asked, unasked, script_refused, read_failed, write_failed}
-use Rattle.chariots_program.proofs.Counts.{run_told, stages_told, kept, at_fault, report_fault, still_shows_none}
-use Rattle.chariots_program.proofs.top.plain_run.Goals as goal
+use Rattle.top_calls.proofs.Complete.{complete, generated_complete, words_asked, unasked, script_refused, read_failed, write_failed}
+use Rattle.top_calls.proofs.Counts.{run_told, stages_told, kept, at_fault, report_fault, still_shows_none}
+use Rattle.top_calls.proofs.top.plain_run.Goals as goal
 
 pub returns-clause-words : goal.returns-clause-words
 returns-clause-words g c = words_asked _ _ _ _ _ _ _ _ _ _ c.do_asked.ensures

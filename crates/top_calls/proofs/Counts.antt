@@ -1,5 +1,5 @@
 -- What the counts of faults tell of a status, and where a run is told.
-use Rattle.std.proofs.Common.{◌≡◌, ◌≢◌, ◌⊎◌, inl, inr, ◌<◌, ◌≤◌, ◌+◌, ◌-◌, ◌^◌, ◌↔◌, min, ℕ, List, refl, sym, ap, subst, ◌∙◌, arith}
+use Rattle.std.proofs.Common.{◌≡◌, inl, inr, ◌<◌, ◌↔◌, ℕ, List, refl, sym, subst, arith}
 use Rattle.std.specs.Prelude.{Option, Some, None, IsSome}
 use Rattle.cz_base.specs.Faults.{Rose}
 use Rattle.abstract_log.specs.declared.script.Script.{Script}
@@ -8,10 +8,10 @@ use Rattle.command_line.specs.declared.task.Form.{Form}
 use Rattle.command_line.specs.declared.task.Form.TheVariants.{Summary}
 use Rattle.command_line.specs.declared.task.Task.{Task}
 use Rattle.command_line.specs.declared.task.Task.TheVariants.{Replay, Generate}
-use Rattle.chariots_program.specs.declared.done.Done.{Done}
-use Rattle.chariots_program.specs.declared.done.Refusal.{Refusal}
-use Rattle.chariots_program.specs.declared.done.Refusal.TheVariants.{Words, Script as BadScript, TooLong, ReadFault, NoMemory}
-use Rattle.chariots_program.specs.Ending.{EndsAtReadFault, EndsGenerated, EndsReplay, EndsReport, EndsTask, EndsUnasked, IsRefused, IsRefusedFor, IsReported, IsReportStatus, StandsStill, status_of}
+use Rattle.top_calls.specs.declared.done.Done.{Done}
+use Rattle.top_calls.specs.declared.done.Refusal.{Refusal}
+use Rattle.top_calls.specs.declared.done.Refusal.TheVariants.{Words, Script as BadScript, TooLong, ReadFault, NoMemory}
+use Rattle.top_calls.specs.Ending.{EndsAtReadFault, EndsGenerated, EndsReplay, EndsReport, EndsTask, IsRefused, IsRefusedFor, IsReported, IsReportStatus, StandsStill, status_of}
 
 -- A count that stands still shows no fault.
 

@@ -1,5 +1,5 @@
-use Rattle.chariots_program.proofs.ScriptFits.{all_fit_are_steps}
-use Rattle.chariots_program.proofs.replaying.tell.Goals as goal
+use Rattle.top_calls.proofs.ScriptFits.{all_fit_are_steps}
+use Rattle.top_calls.proofs.replaying.tell.Goals as goal
 
 pub replay-requires-clause-steps : goal.replay-requires-clause-steps
 replay-requires-clause-steps c = (

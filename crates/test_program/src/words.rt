@@ -1,10 +1,10 @@
 //! The words of the command line, and the status of each.
 
-use super::plain_run;
 use cz_base::{MemSink, MemSource, Seq, Word};
 use std::alloc::Global;
 use std::process::Abort;
 use std::test::Fail;
+use top_calls::plain_run;
 
 const ONE_APPEND: &[u8] = b"\
     chariots 1\n\

@@ -1,6 +1,6 @@
-use Rattle.chariots_program.proofs.Complete.{replay_asks, replay_refused, replay_read_failed, replay_write_failed, replay_complete}
-use Rattle.chariots_program.proofs.Counts.{replay_run_told, replay_stages_told, replay_kept, replay_at_fault, replay_report_fault, still_shows_none}
-use Rattle.chariots_program.proofs.top.replay_run.Goals as goal
+use Rattle.top_calls.proofs.Complete.{replay_asks, replay_refused, replay_read_failed, replay_write_failed, replay_complete}
+use Rattle.top_calls.proofs.Counts.{replay_run_told, replay_stages_told, replay_kept, replay_at_fault, replay_report_fault, still_shows_none}
+use Rattle.top_calls.proofs.top.replay_run.Goals as goal
 
 pub returns-clause-words : goal.returns-clause-words
 returns-clause-words g c = replay_asks _ _ _ _ _ _ _ _ _ _ c.replay_and_report.ensures

@@ -1,12 +1,11 @@
 //! Scripts of sessions that share a log, and the answers of each command.
 
-use super::plain_run;
-use crate::done::Done;
 use abstract_log::StageLog;
 use cz_base::{MemSink, MemSource, Seq, Word};
 use std::alloc::Global;
 use std::process::Abort;
 use std::test::Fail;
+use top_calls::{Done, plain_run};
 
 // A value is read elsewhere, and what is put after it waits for it.
 const ACROSS: &[u8] = b"\

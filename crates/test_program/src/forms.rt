@@ -1,11 +1,11 @@
 //! The four forms, each for a few scripts, byte by byte.
 
-use super::{plain_run, replay_run};
 use command_line::Form;
 use cz_base::{MemSink, MemSource, Seq, SureSink, SureSource, Word};
 use std::alloc::Global;
 use std::process::Abort;
 use std::test::Fail;
+use top_calls::{plain_run, replay_run};
 
 const NO_SESSION: &[u8] = b"\
     chariots 1\n\

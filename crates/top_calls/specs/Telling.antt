@@ -2,8 +2,8 @@
 use Rattle.std.specs.Prelude.{◌≡◌, List, ℕ, Option}
 use Rattle.abstract_log.specs.declared.script.Script.{Script}
 use Rattle.command_line.specs.declared.task.Form.{Form}
-use Rattle.chariots_program.specs.declared.replaying.Told.{Told}
-use Rattle.chariots_program.specs.Ending.{IsRunOf, WasRead, text_of}
+use Rattle.top_calls.specs.declared.replaying.Told.{Told}
+use Rattle.top_calls.specs.Ending.{IsRunOf, WasRead, text_of}
 
 -- The script was replayed, and this is the report of its run in this form.
 pub record IsTold (form : Form) (script : Script) (told : Told) : Type 0 where

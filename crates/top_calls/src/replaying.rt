@@ -4,8 +4,8 @@ ghost use Rattle.abstract_log.specs.Fits.{FitsLimits, FitsScript};
 ghost use Rattle.abstract_log.specs.Left.{left_of};
 ghost use Rattle.abstract_log.specs.Runs.{IsRun, world_of};
 ghost use Rattle.abstract_log.specs.Turns.{FitsStep, IsBuiltStep};
-ghost use Rattle.chariots_program.specs.Ending.{EndsReport, IsRefusedFor, WasRead, WritesFront, text_of};
-ghost use Rattle.chariots_program.specs.Telling.{IsTold, IsToldOfSource};
+ghost use Rattle.top_calls.specs.Ending.{EndsReport, IsRefusedFor, WasRead, WritesFront, text_of};
+ghost use Rattle.top_calls.specs.Telling.{IsTold, IsToldOfSource};
 
 use crate::done::{Done, Refusal, bad_line, write_front};
 use abstract_log::{Left, Run, Script, StageLog};

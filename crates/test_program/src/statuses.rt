@@ -1,11 +1,10 @@
 //! The statuses of the program, and what it writes where a stream or the memory fails.
 
-use super::{chariots, plain_run};
-use crate::replaying::SCRIPT_LIMIT;
 use cz_base::{MemSink, MemSource, OpenGate, Seq, Word};
 use std::alloc::Global;
 use std::process::Abort;
 use std::test::Fail;
+use top_calls::{SCRIPT_LIMIT, chariots, plain_run};
 
 const NO_SESSION: &[u8] = b"\
     chariots 1\n\

@@ -2,11 +2,11 @@
 
 ghost use Rattle.std.specs.Prelude.{◌<◌};
 
-use super::plain_run;
 use cz_base::{MemSink, MemSource, Seq, Word};
 use std::alloc::Global;
 use std::process::Abort;
 use std::test::Fail;
+use top_calls::plain_run;
 
 // A script that is refused, and what is written of it.
 struct Refused {
