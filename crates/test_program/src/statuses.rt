@@ -39,6 +39,17 @@ const ONE_MARK: &[u8] = b"\
     mark A\n\
     end\n";
 
+// Two queues are added where there is room for one.
+const SEVENTEEN_QUEUES: &[u8] = b"\
+    chariots 1\n\
+    datacentres 1\n\
+    round 1\n\
+    stages A 1 1 15 1 1 1 1\n\
+    steps\n\
+    addqueue A\n\
+    addqueue A\n\
+    end\n";
+
 const SEVENTEEN_KEYS: &[u8] = b"\
     chariots 1\n\
     datacentres 1\n\
@@ -171,7 +182,7 @@ struct Case {
     written: &'static [u8],
 }
 
-const CASES: [Case; 21] = [
+const CASES: [Case; 22] = [
     Case {
         word: "replay",
         script: NO_SESSION,
@@ -201,8 +212,16 @@ const CASES: [Case; 21] = [
         script: ONE_MARK,
         read_fails: 0,
         write_fails: 0,
+        status: 0,
+        written: b"log A 0\nreplies\nend\n",
+    },
+    Case {
+        word: "replay",
+        script: SEVENTEEN_QUEUES,
+        read_fails: 0,
+        write_fails: 0,
         status: 3,
-        written: b"refused: line 5: not built\n",
+        written: b"refused: line 7: too many\n",
     },
     Case {
         word: "replay",

@@ -2,7 +2,7 @@
 use Rattle.std.specs.Prelude.{ℕ, List, ◌++◌, codes}
 use Rattle.std.specs.Fmt.{decimal}
 use Rattle.script_text.specs.declared.fault.Cause.{Cause}
-use Rattle.script_text.specs.declared.fault.Cause.TheVariants.{BadByte, BadSpacing, AfterEnd, UnknownWord, OutOfPlace, NotBuilt, WrongWords, BadDatacentre, BadNumber, OutOfRange, BadName, BadBody, GivenTwice, TooMany, TooShort}
+use Rattle.script_text.specs.declared.fault.Cause.TheVariants.{BadByte, BadSpacing, AfterEnd, UnknownWord, OutOfPlace, WrongWords, BadDatacentre, BadNumber, OutOfRange, BadName, BadBody, GivenTwice, TooMany, TooShort}
 
 -- what is said of a bad line
 abbrev pub cause_text : Cause → List ℕ
@@ -11,7 +11,6 @@ cause_text BadSpacing = codes "bad spacing"
 cause_text AfterEnd = codes "after end"
 cause_text UnknownWord = codes "unknown word"
 cause_text OutOfPlace = codes "out of place"
-cause_text NotBuilt = codes "not built"
 cause_text WrongWords = codes "wrong number of words"
 cause_text BadDatacentre = codes "bad datacentre"
 cause_text BadNumber = codes "bad number"

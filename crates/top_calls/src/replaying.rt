@@ -3,7 +3,7 @@ ghost use Rattle.std.specs.Prelude.{◌≡◌, Some, IfOk, IfErr, All};
 ghost use Rattle.abstract_log.specs.Fits.{FitsLimits, FitsScript};
 ghost use Rattle.abstract_log.specs.Left.{left_of};
 ghost use Rattle.abstract_log.specs.Runs.{IsRun, world_of};
-ghost use Rattle.abstract_log.specs.Turns.{FitsStep, IsBuiltStep};
+ghost use Rattle.abstract_log.specs.Turns.{FitsStep};
 ghost use Rattle.top_calls.specs.Ending.{EndsReport, IsRefusedFor, WasRead, WritesFront, text_of};
 ghost use Rattle.top_calls.specs.Telling.{IsTold, IsToldOfSource};
 
@@ -48,7 +48,7 @@ pub fn read_and_replay<S: Source>(
 fn read<S: Source>(alloc: Global, source: &mut S) -> Result<Script, Refusal>
     ensures read { IfOk result (WasRead (S.left source.old) (S.left source.new) (S.faults source.old) (S.faults source.new)) }
     ensures fits { IfOk result FitsScript }
-    ensures steps { IfOk result (λ script. All (FitsStep script.workload) script.steps × All IsBuiltStep script.steps) }
+    ensures steps { IfOk result (λ script. All (FitsStep script.workload) script.steps) }
     ensures refused { IfErr result (IsRefusedFor (S.left source.old) (S.left source.new) (S.faults source.old) (S.faults source.new)) }
 {
     let bytes = match read_all(alloc, source, SCRIPT_LIMIT) {
@@ -70,7 +70,7 @@ fn read<S: Source>(alloc: Global, source: &mut S) -> Result<Script, Refusal>
 /// Replays a script and makes its report.
 pub fn tell(alloc: Global, form: Form, script: Script) -> Result<Told, NoMemory>
     requires fits { FitsScript script }
-    requires steps { All (FitsStep script.workload) script.steps × All IsBuiltStep script.steps }
+    requires steps { All (FitsStep script.workload) script.steps }
     ensures { IfOk result (IsTold form script) }
 {
     let played = world::replay(alloc, &script)?;
