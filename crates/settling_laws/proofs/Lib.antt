@@ -27,6 +27,6 @@ pub mod TellingPass
 pub mod Passes
 pub mod Telling
 pub mod TellingLoop
+pub mod Announcements
 pub mod Settled
-pub mod Quiet
 pub mod Scripts

@@ -12,6 +12,7 @@ use Rattle.stage_world.specs.Whole.{datacentre_at, nowhere_at}
 use Rattle.abstract_log.specs.Turns.{IsStep}
 use Rattle.stage_world.specs.Schedules.{after_steps}
 use Rattle.stage_world.specs.Settling.{has_unanswered, is_answering, answering_rounds, after_passes, turns_of_passes}
+use Rattle.settling_laws.specs.Ending.{AreQuiet}
 use Rattle.settling_laws.specs.Rounds.{HasSameMembers, IsRounded, IsStanding, left_at, left_in, EndsAnswering}
 use Rattle.settling_laws.proofs.Live.{IsLive}
 use Rattle.settling_laws.proofs.Members.{same_members, members_both}
@@ -159,6 +160,10 @@ module _ (load : Workload) (z : Stages) (h : IsStanding load z) where
   -- the turns of any number of passes are steps that a script may have
   pub answering_steps : (n : ℕ) → All (IsStep load) (turns_to n)
   answering_steps n = (leads_to n).steps
+
+  -- and bring no announcement
+  pub answering_stays_quiet : (n : ℕ) → AreQuiet load z → AreQuiet load (at n)
+  answering_stays_quiet n quiet d within = ((leads_to n).members d).announcement ∙ quiet d within
 
   -- The loop of answering ends.
   pub answering_ends_at : EndsAnswering load z

@@ -1,5 +1,5 @@
 -- Scripts come to an end.
-use Rattle.std.proofs.Common.{◌≡◌, List, [], ◌∷◌, ◌++◌, refl, ap, sym, subst, ◌∙◌, append_assoc}
+use Rattle.std.proofs.Common.{◌≡◌, List, [], ◌∷◌, ◌++◌, refl, ap, sym, subst, ◌∙◌}
 use Rattle.std.specs.List.{All}
 use Rattle.std.proofs.lemmas.List.Elements.{All-append}
 use Rattle.abstract_log.specs.declared.command.Workload.{Workload}
@@ -20,24 +20,11 @@ use Rattle.stage_world.specs.Stages.{Stages}
 use Rattle.stage_world.proofs.AllTurns.{schedule}
 use Rattle.stage_world.proofs.OpeningLemmas.{opening_stands_for}
 use Rattle.settling_laws.specs.Rounds.{IsStanding}
-use Rattle.settling_laws.specs.Ending.{AreQuiet, EndsSettling, HasFinishedRun, IsCalm, IsFinishedBy}
-use Rattle.settling_laws.proofs.Quiet.{opening_calm, steps_calm}
-use Rattle.settling_laws.proofs.Settled.{settled_is_finished, settling_ends_at}
+use Rattle.settling_laws.specs.Ending.{EndsSettling, HasFinishedRun, IsFinishedBy}
+use Rattle.settling_laws.proofs.Settled.{events_of-append, settled_is_finished, settling_ends_at}
 
-events_of-append : (load : Workload) (ts us : List Step) (z : Stages) → events_of load z (ts ++ us) ≡ events_of load z ts ++ events_of load (after_steps load z ts) us
-events_of-append load [] us z = refl
-events_of-append load (t ∷ ts) us z =
-    ap (λ es. (step_of load z t).events ++ es) (events_of-append load ts us (step_of load z t).after)
-    ∙ sym (append_assoc (step_of load z t).events (events_of load (step_of load z t).after ts) (events_of load (after_steps load (step_of load z t).after ts) us))
-
--- no announcement is on after the steps of a calm script
-pub calm_script : (script : Script) → FitsScript script → All (IsStep script.workload) script.steps → All IsCalm script.steps → AreQuiet script.workload (after_steps script.workload (opening script) script.steps)
-calm_script script fits good calm =
-    let standing : IsStanding script.workload (opening script) = record { world = start script.workload; workload = refl; lawful = laws_of_run script.workload [] fits.limits tt; stands = opening_stands_for script fits } in
-    steps_calm script.workload script.steps (opening script) good calm standing (opening_calm script)
-
-pub script_ends : (script : Script) → FitsScript script → All (IsStep script.workload) script.steps → All IsCalm script.steps → HasFinishedRun script
-script_ends script fits good calm =
+pub script_ends : (script : Script) → FitsScript script → All (IsStep script.workload) script.steps → HasFinishedRun script
+script_ends script fits good =
     let load : Workload = script.workload in
     let z : Stages = after_steps load (opening script) script.steps in
     let es : List Event = events_of load (opening script) script.steps in
@@ -45,7 +32,7 @@ script_ends script fits good calm =
     let before = schedule script script.steps fits good in
     let same : w.workload ≡ load = workload_is load es in
     let h : IsStanding load z = record { world = w; workload = same; lawful = laws_of_run load es fits.limits before.0; stands = before.1 } in
-    let ends : EndsSettling load z = settling_ends_at load z h (calm_script script fits good calm) in
+    let ends : EndsSettling load z = settling_ends_at load z h in
     let all = schedule script (script.steps ++ ends.turns) fits (All-append (IsStep load) script.steps ends.turns good ends.steps) in
     let by : IsFinishedBy w z ends.turns = settled_is_finished w z ends.turns h.lawful h.stands (subst (λ l. IsSettling l z ends.turns) (sym same) ends.settling) in
     let split : events_of load (opening script) (script.steps ++ ends.turns) ≡ es ++ events_of load z ends.turns = events_of-append load script.steps ends.turns (opening script) in

@@ -1,5 +1,5 @@
 -- Settling ends, and the world that it leaves is finished.
-use Rattle.std.proofs.Common.{◌≡◌, ℕ, zero, suc, ◌<◌, ◌≤◌, true, false, Bool, not, eqb, List, [], ◌∷◌, ◌++◌, length, get_or, refl, ap, sym, subst, ◌∙◌, inl, inr, arith, None}
+use Rattle.std.proofs.Common.{append_assoc, ◌≡◌, ℕ, zero, suc, ◌<◌, ◌≤◌, true, false, Bool, not, eqb, List, [], ◌∷◌, ◌++◌, length, get_or, refl, ap, sym, subst, ◌∙◌, inl, inr, arith, None}
 use Rattle.std.specs.List.{All, Contains, list_all}
 use Rattle.std.proofs.lemmas.Bool.{cases_lt, or_parts, and_parts, eqb-true, ltb-false}
 use Rattle.std.proofs.lemmas.List.{get_or_past, get_or-map, length-map}
@@ -22,14 +22,15 @@ use Rattle.stage_world.specs.MoreTurns.{same_counts}
 use Rattle.stage_world.specs.Whole.{StandsFor, datacentre_at, nowhere_at}
 use Rattle.abstract_log.specs.Turns.{IsStep}
 use Rattle.stage_world.specs.Schedules.{IsKept, step_of, after_steps, events_of}
-use Rattle.stage_world.specs.Settling.{is_unanswered, has_unanswered, is_answering, is_agreed, is_unfinished, all_rounds, answering_rounds, telling_rounds, after_passes, turns_of_passes, IsLoop, IsSettling}
+use Rattle.stage_world.specs.Settling.{is_unanswered, has_unanswered, is_answering, is_agreed, is_unfinished, all_rounds, answering_rounds, telling_rounds, after_passes, turns_of_passes, all_marks, AreSettlingRounds, IsLoop, IsSettling}
 use Rattle.stage_world.proofs.AllTurns.{step_kept}
 use Rattle.settling_laws.specs.Rounds.{IsStanding, EndsAnswering}
-use Rattle.settling_laws.specs.Ending.{AreQuiet, EndsTelling, EndsSettling, IsFinishedBy}
+use Rattle.settling_laws.specs.Ending.{AreQuiet, EndsRounds, EndsTelling, EndsSettling, IsFinishedBy}
 use Rattle.log_laws.proofs.LawfulAfter.{lawful_after, kept_of}
 use Rattle.log_laws.proofs.LimitedRuns.{workload_stays}
 use Rattle.settling_laws.proofs.Live.{steps_stand}
 use Rattle.settling_laws.proofs.Rounds.{after_steps-append}
+use Rattle.settling_laws.proofs.Announcements.{marks_may_come, quiet_after_marks}
 use Rattle.settling_laws.proofs.Loop.{answering_ends_at, answering_steps}
 use Rattle.settling_laws.proofs.Behind.{extends_counts, stands_here}
 use Rattle.settling_laws.proofs.TellingPass.{AreAllRounded, all_round, dcs_of}
@@ -45,8 +46,9 @@ pub loop_reaches : (load : Workload) (goes_on : Stages → Bool) (pass : Workloa
 loop_reaches load goes_on pass z n ts h = ap (λ us. goes_on (after_steps load z us)) h.turns ∙ ap goes_on (passes_reach load pass z n) ∙ h.ends
 
 -- Settling ends.
-pub settling_ends_at : (load : Workload) (z : Stages) → IsStanding load z → AreQuiet load z → EndsSettling load z
-settling_ends_at load z h quiet =
+-- The rounds of settling end, where no announcement is on.
+rounds_end_at : (load : Workload) (z : Stages) → IsStanding load z → AreQuiet load z → EndsRounds load z
+rounds_end_at load z h quiet =
     let a : EndsAnswering load z = answering_ends_at load z h in
     let y : Stages = after_steps load z a.turns in
     let hy : IsStanding load y = steps_stand load a.turns z a.steps h in
@@ -57,8 +59,19 @@ settling_ends_at load z h quiet =
     let last : AreAllRounded load x (steps_stand load (a.turns ++ t.turns) z both h) (after_steps load x (all_rounds x)) (all_rounds x) = all_round load x (steps_stand load (a.turns ++ t.turns) z both h) in
     record {
       turns = a.turns ++ t.turns ++ all_rounds x;
-      settling = record { answering = a.turns; answers = a.passes; first = a.loop; telling = t.turns; tells = t.passes; second = t.loop; turns = refl };
+      rounds = record { answering = a.turns; answers = a.passes; first = a.loop; telling = t.turns; tells = t.passes; second = t.loop; turns = refl };
       steps = All-append (IsStep load) (a.turns ++ t.turns) (all_rounds x) both last.steps;
+    }
+
+-- Settling ends, since its first turns end each announcement.
+pub settling_ends_at : (load : Workload) (z : Stages) → IsStanding load z → EndsSettling load z
+settling_ends_at load z h =
+    let first : All (IsStep load) (all_marks z) = marks_may_come load z h in
+    let rest : EndsRounds load (after_steps load z (all_marks z)) = rounds_end_at load (after_steps load z (all_marks z)) (steps_stand load (all_marks z) z first h) (quiet_after_marks load z h) in
+    record {
+      turns = all_marks z ++ rest.turns;
+      settling = record { rounds = rest.turns; settled = rest.rounds; turns = refl };
+      steps = All-append (IsStep load) (all_marks z) rest.turns first rest.steps;
     }
 
 -- lists of counts that are the same have the same numbers
@@ -174,9 +187,16 @@ steps_happen load (t ∷ ts) w z is lawful h good =
     let same : after_all w (es ++ more) ≡ after_all v more = after_all-append w es more in
     (CanAllHappen-append w es more kept.can rest.0, (subst IsLawful (sym same) rest.1.0, subst (λ u. StandsFor u (after_steps load y ts)) (sym same) rest.1.1))
 
--- The world that settling leaves is finished.
-pub settled_is_finished : (w : World) (z : Stages) (steps : List Step) → IsLawful w → StandsFor w z → IsSettling w.workload z steps → IsFinishedBy w z steps
-settled_is_finished w z steps lawful h s =
+-- the events of steps, one part after another
+pub events_of-append : (load : Workload) (ts us : List Step) (z : Stages) → events_of load z (ts ++ us) ≡ events_of load z ts ++ events_of load (after_steps load z ts) us
+events_of-append load [] us z = refl
+events_of-append load (t ∷ ts) us z =
+    ap (λ es. (step_of load z t).events ++ es) (events_of-append load ts us (step_of load z t).after)
+    ∙ sym (append_assoc (step_of load z t).events (events_of load (step_of load z t).after ts) (events_of load (after_steps load (step_of load z t).after ts) us))
+
+-- The world that the rounds of settling leave is finished.
+rounds_finish : (w : World) (z : Stages) (steps : List Step) → IsLawful w → StandsFor w z → AreSettlingRounds w.workload z steps → IsFinishedBy w z steps
+rounds_finish w z steps lawful h s =
     let load : Workload = w.workload in
     let hz : IsStanding load z = record { world = w; workload = refl; lawful = lawful; stands = h } in
     let first : All (IsStep load) s.answering = subst (All (IsStep load)) (sym s.first.turns) (answering_steps load z hz s.answers) in
@@ -199,4 +219,25 @@ settled_is_finished w z steps lawful h s =
     record {
       can = happens.0;
       finished = finished_where load end hv (ap is_answering end_is ∙ settled.0) (subst (AreSame load) (sym end_is) settled.1);
+    }
+
+-- So is the world that settling leaves.
+pub settled_is_finished : (w : World) (z : Stages) (steps : List Step) → IsLawful w → StandsFor w z → IsSettling w.workload z steps → IsFinishedBy w z steps
+settled_is_finished w z steps lawful h s =
+    let load : Workload = w.workload in
+    let ms : List Step = all_marks z in
+    let hz : IsStanding load z = record { world = w; workload = refl; lawful = lawful; stands = h } in
+    let es : List Event = events_of load z ms in
+    let v : World = after_all w es in
+    let y : Stages = after_steps load z ms in
+    let happens = steps_happen load ms w z refl lawful h (marks_may_come load z hz) in
+    let same : v.workload ≡ load = workload_stays w es in
+    let by : IsFinishedBy v y s.rounds = rounds_finish v y s.rounds happens.1.0 happens.1.1 (subst (λ l. AreSettlingRounds l y s.rounds) (sym same) s.settled) in
+    let more : List Event = events_of load y s.rounds in
+    let can : CanAllHappen v more = subst (λ l. CanAllHappen v (events_of l y s.rounds)) same by.can in
+    let finished : IsFinished (after_all v more) = subst (λ l. IsFinished (after_all v (events_of l y s.rounds))) same by.finished in
+    let split : events_of load z steps ≡ es ++ more = ap (events_of load z) s.turns ∙ events_of-append load ms s.rounds z in
+    record {
+      can = subst (CanAllHappen w) (sym split) (CanAllHappen-append w es more happens.0 can);
+      finished = subst IsFinished (sym (ap (after_all w) split ∙ after_all-append w es more)) finished;
     }

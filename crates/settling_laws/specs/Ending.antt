@@ -4,7 +4,6 @@ use Rattle.cz_base.specs.declared.limits.TheConstants.{COMMANDS}
 use Rattle.abstract_log.specs.declared.command.Workload.{Workload}
 use Rattle.abstract_log.specs.declared.script.Script.{Script}
 use Rattle.abstract_log.specs.declared.script.Step.{Step}
-use Rattle.abstract_log.specs.declared.script.Step.TheVariants.{Announce}
 use Rattle.abstract_log.specs.declared.world.World.{World}
 use Rattle.abstract_log.specs.Runs.{CanAllHappen, IsFinished, IsRun, after_all, world_of}
 use Rattle.stage_world.specs.Opening.{opening}
@@ -12,16 +11,11 @@ use Rattle.stage_world.specs.Stages.{Stages}
 use Rattle.stage_world.specs.Whole.{datacentre_at}
 use Rattle.abstract_log.specs.Turns.{IsStep}
 use Rattle.stage_world.specs.Schedules.{after_steps, events_of}
-use Rattle.stage_world.specs.Settling.{is_unfinished, telling_rounds, IsLoop, IsSettling}
+use Rattle.stage_world.specs.Settling.{is_unfinished, telling_rounds, AreSettlingRounds, IsLoop, IsSettling}
 
 -- no announcement is on
 abbrev pub AreQuiet : Workload → Stages → Type 0
 AreQuiet load z = (d : ℕ) → d < load.dcs → (datacentre_at z d).announcement ≡ None
-
--- a step that announces nothing
-abbrev pub IsCalm : Step → Type 0
-IsCalm (Announce d h t) = ⊥
-IsCalm step = Unit {0}
 
 -- how many passes of telling there are at most: two for each record that a log may get, and four
 abbrev pub most_passes : Workload → ℕ
@@ -33,6 +27,12 @@ pub record EndsTelling (load : Workload) (z : Stages) : Type 0 where
   pub turns : List Step
   pub loop : IsLoop load is_unfinished telling_rounds z passes turns
   pub few : passes ≤ most_passes load
+  pub steps : All (IsStep load) turns
+
+-- The rounds of settling end: these are their turns.
+pub record EndsRounds (load : Workload) (z : Stages) : Type 0 where
+  pub turns : List Step
+  pub rounds : AreSettlingRounds load z turns
   pub steps : All (IsStep load) turns
 
 -- Settling ends: these are its turns.

@@ -6,12 +6,13 @@
 //! a key at every session that waits, and the rounds of answering end.
 //!
 //! The theorem for the layer above: `settling_ends`, and `settled_worlds_are_finished`. So code that takes these turns comes to an
-//! end and leaves a finished world, whatever a script without announcements did before. That code is in `world`, with its tests.
+//! end and leaves a finished world, whatever a script did before. Its first turns bring each announcement to its end, since no record
+//! that a filter holds below a mark could be waited for. That code is in `world`, with its tests.
 #![tactic(auto)]
 
 mod laws;
 
 pub use laws::{
-    answering_ends, calm_scripts_stay_quiet, rounds_settle_a_datacentre, scripts_come_to_an_end,
+    answering_ends, marks_end_announcements, rounds_settle_a_datacentre, scripts_come_to_an_end,
     settled_worlds_are_finished, settling_ends, telling_ends,
 };

@@ -1,10 +1,12 @@
 -- Settling: the turns by which every command is answered and every log gets every record, as a function of the stages.
 use Rattle.std.specs.Prelude.{◌≡◌, ℕ, zero, suc, ◌+◌, ◌<◌, ◌%◌, ◌==◌, ◌||◌, Bool, true, false, not, if◌then◌else◌, nat_lt, List, [], ◌∷◌, ◌++◌, length, map, filter, flat_map}
 use Rattle.std.specs.List.{list_any, list_all}
+use Rattle.cz_base.specs.declared.limits.TheConstants.{MEMBERS}
 use Rattle.abstract_log.specs.declared.command.Workload.{Workload}
 use Rattle.abstract_log.specs.declared.script.Step.{Step}
-use Rattle.abstract_log.specs.declared.script.Step.TheVariants.{Client, Flush, Pass, Stamp, Token, Place, Gossip, Post, Learn, Send, Deliver}
-use Rattle.stage_world.specs.Stages.{Datacentre, Session, Stages}
+use Rattle.abstract_log.specs.declared.script.Step.TheVariants.{Client, Flush, Pass, Stamp, Token, Place, Gossip, Post, Learn, Send, Deliver, Mark}
+pub use Rattle.hyksos.specs.Sessions.{is_unanswered}
+use Rattle.stage_world.specs.Stages.{Datacentre, Stages}
 use Rattle.stage_world.specs.Opening.{numbered}
 use Rattle.stage_world.specs.MoreTurns.{message_of, same_counts}
 use Rattle.stage_world.specs.LinkTurns.{link_length}
@@ -49,10 +51,7 @@ rounds z ds = flat_map (λ d. local_round d (datacentre_at z d)) ds
 abbrev pub all_rounds : Stages → List Step
 all_rounds z = rounds z (below (length z.datacentres))
 
--- a session with a command that is not answered
-abbrev pub is_unanswered : Session → Bool
-is_unanswered x = nat_lt x.standing.answered (length x.commands)
-
+-- a session has a command that is not answered
 abbrev pub has_unanswered : Datacentre → Bool
 has_unanswered z = list_any is_unanswered z.sessions
 
@@ -123,9 +122,20 @@ pub record IsLoop (load : Workload) (goes_on : Stages → Bool) (pass : Workload
   pub before : (n : ℕ) → n < passes → goes_on (after_passes load pass z n) ≡ true
   pub ends : goes_on (after_passes load pass z passes) ≡ false
 
--- The turns of settling, from stages z on: rounds until every command is answered, rounds and exchanges until every log has every
--- record, and a last round of each datacentre.
-pub record IsSettling (load : Workload) (z : Stages) (steps : List Step) : Type 0 where
+-- How often each datacentre takes the next step of its announcement as settling begins: each filter is asked once, and then all take
+-- the grown map.
+abbrev pub mark_turns : ℕ
+mark_turns = MEMBERS + 1
+
+abbrev pub marks : ℕ → List Step
+marks d = numbered (λ _. Mark d) mark_turns
+
+abbrev pub all_marks : Stages → List Step
+all_marks z = flat_map marks (below (length z.datacentres))
+
+-- The rounds of settling, from stages z on: until every command is answered, then with exchanges until every log has every record, and a
+-- last round of each datacentre.
+pub record AreSettlingRounds (load : Workload) (z : Stages) (steps : List Step) : Type 0 where
   pub answering : List Step
   pub answers : ℕ
   pub first : IsLoop load is_answering answering_rounds z answers answering
@@ -133,3 +143,9 @@ pub record IsSettling (load : Workload) (z : Stages) (steps : List Step) : Type 
   pub tells : ℕ
   pub second : IsLoop load is_unfinished telling_rounds (after_steps load z answering) tells telling
   pub turns : steps ≡ answering ++ telling ++ all_rounds (after_steps load z (answering ++ telling))
+
+-- The turns of settling, from stages z on: those by which each announcement comes to its end, and then the rounds.
+pub record IsSettling (load : Workload) (z : Stages) (steps : List Step) : Type 0 where
+  pub rounds : List Step
+  pub settled : AreSettlingRounds load (after_steps load z (all_marks z)) rounds
+  pub turns : steps ≡ all_marks z ++ rounds

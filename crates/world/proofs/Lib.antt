@@ -8,7 +8,6 @@ pub mod MovingLemmas
 pub mod IdleLemmas
 pub mod LinkIdle
 pub mod RoundLemmas
-pub mod QuietLemmas
 pub mod KnownLemmas
 pub mod RoundIs
 pub mod SettlingLemmas

@@ -25,12 +25,12 @@ use Rattle.stage_world.specs.StandsFor.{StandsAt}
 use Rattle.stage_world.specs.Turns.{Turned, quiet, where_there}
 use Rattle.stage_world.specs.MoreTurns.{message_of, names_of, receive_turn}
 use Rattle.stage_world.specs.LinkTurns.{Moved, deliver_turn, has_lost, link_length, moved_at, put_in_link, send_turn, still, with_link}
-use Rattle.abstract_log.specs.Turns.{IsBuiltStep, IsStep, place_of_step}
+use Rattle.abstract_log.specs.Turns.{IsStep, place_of_step}
 use Rattle.stage_world.specs.Schedules.{step_of, turn_of}
 use Rattle.stage_world.specs.Whole.{IsTold, datacentre_at, link_at}
 use Rattle.stage_turns.specs.declared.done.TurnDone.{TurnDone}
 use Rattle.datacentre.specs.Seen.{StandsForALog}
-use Rattle.datacentre.specs.Turning.{IsBuilt}
+use Rattle.datacentre.specs.Turning.{IsOwnStep}
 use Rattle.stage_turns.proofs.ToldLemmas.{links_spelled}
 use Rattle.world.specs.declared.network.Network.{Network}
 use Rattle.world.specs.Links.{AreThere, copy_outcome, lose_outcome, outcome_of_copy, packets_at, with_packets}
@@ -106,30 +106,30 @@ place_within load (AddQueue d) homes good = good
 place_within load (AddSender d) homes good = good
 place_within load (AddReceiver d) homes good = good
 
--- a built step of a stage of one datacentre is one that its turn takes
-built_here : (z : Datacentre) (step : Step) → IsBuiltStep step → uses_link step ≡ false → IsBuilt z step
-built_here z (Client s) built own = built
-built_here z (Flush _ b) built own = built
-built_here z (Pass _ f q) built own = built
-built_here z (Stamp _ q) built own = built
-built_here z (Token _) built own = built
-built_here z (Place _ q m) built own = built
-built_here z (Gossip _ m k) built own = built
-built_here z (Post _ m i) built own = built
-built_here z (Learn _) built own = built
-built_here z (Send _ k e) built own = absurd (cc)
-built_here z (Deliver _ e k r) built own = absurd (cc)
-built_here z (Lose _ e k) built own = absurd (cc)
-built_here z (Copy _ e k) built own = absurd (cc)
-built_here z (Floor _ p) built own = built
-built_here z (Collect _ m) built own = built
-built_here z (Announce _ g t) built own = built
-built_here z (Mark _) built own = built
-built_here z (AddMaintainer _ p) built own = built
-built_here z (AddBatcher _) built own = built
-built_here z (AddQueue _) built own = built
-built_here z (AddSender _) built own = built
-built_here z (AddReceiver _) built own = built
+-- a step of a stage of one datacentre is one that its turn takes
+own_here : (load : Workload) (z : Datacentre) (step : Step) → length z.table ≡ load.dcs → IsStep load step → uses_link step ≡ false → IsOwnStep z step
+own_here load z (Client s) rows good own = tt
+own_here load z (Flush _ b) rows good own = tt
+own_here load z (Pass _ f q) rows good own = tt
+own_here load z (Stamp _ q) rows good own = tt
+own_here load z (Token _) rows good own = tt
+own_here load z (Place _ q m) rows good own = tt
+own_here load z (Gossip _ m k) rows good own = tt
+own_here load z (Post _ m i) rows good own = tt
+own_here load z (Learn _) rows good own = tt
+own_here load z (Send _ k e) rows good own = absurd (cc)
+own_here load z (Deliver _ e k r) rows good own = absurd (cc)
+own_here load z (Lose _ e k) rows good own = absurd (cc)
+own_here load z (Copy _ e k) rows good own = absurd (cc)
+own_here load z (Floor _ p) rows good own = tt
+own_here load z (Collect _ m) rows good own = tt
+own_here load z (Announce _ g t) rows good own = omega (arith, good.second, rows)
+own_here load z (Mark _) rows good own = tt
+own_here load z (AddMaintainer _ p) rows good own = good.1
+own_here load z (AddBatcher _) rows good own = tt
+own_here load z (AddQueue _) rows good own = tt
+own_here load z (AddSender _) rows good own = tt
+own_here load z (AddReceiver _) rows good own = tt
 
 module _ (load : Workload) (step : Step) (z : Stages) (old : Network) (may : MayStep load step z old) where
   dcs_same : may.world.workload.dcs ≡ load.dcs
@@ -156,7 +156,7 @@ module _ (load : Workload) (step : Step) (z : Stages) (old : Network) (may : May
         stages = datacentre_at z d;
         seen = seen_at load.dcs z old d may.shown within;
         log = log_there d within;
-        built = built_here (datacentre_at z d) step may.built own;
+        own = own_here load (datacentre_at z d) step (rows_are d within) may.fits own;
       }
 
 turned_at : (dcs : ℕ) (z : Stages) (old new : Network) (d : ℕ) (turned : Turned) (done : TurnDone) → Shows dcs z old → new.links ≡ old.links → HasTurned d (datacentre_at z d) turned old.datacentres new.datacentres done

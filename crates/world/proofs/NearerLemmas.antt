@@ -1,5 +1,5 @@
 -- Each pass of a loop of settling comes nearer to its end.
-use Rattle.std.proofs.Common.{◌≡◌, ℕ, suc, ◌+◌, ◌<◌, ◌≤◌, Bool, true, false, List, [], ◌∷◌, ◌++◌, map, refl, ap, ap₂, sym, ◌∙◌, subst, arith, Option, Some, None}
+use Rattle.std.proofs.Common.{◌≡◌, ℕ, suc, ◌+◌, ◌<◌, ◌≤◌, Bool, true, false, List, [], ◌∷◌, ◌++◌, map, get_or, refl, ap, ap₂, sym, ◌∙◌, subst, arith, Option, Some, None}
 use Rattle.abstract_log.specs.declared.command.Workload.{Workload}
 use Rattle.abstract_log.specs.declared.script.Script.{Script}
 use Rattle.abstract_log.specs.declared.script.Step.{Step}
@@ -10,17 +10,17 @@ use Rattle.log_laws.specs.Lawful.{IsLawful}
 use Rattle.log_laws.proofs.LimitedRuns.{laws_of_run, workload_is}
 use Rattle.stage_world.specs.Stages.{Datacentre, Stages}
 use Rattle.stage_world.specs.Schedules.{after_steps}
-use Rattle.stage_world.specs.Settling.{after_passes, answering_rounds, is_answering, is_unfinished, telling_rounds}
+use Rattle.stage_world.specs.Settling.{after_passes, all_marks, answering_rounds, is_answering, is_unfinished, telling_rounds}
 use Rattle.stage_world.specs.Whole.{StandsFor, nowhere_at}
 use Rattle.settling_laws.specs.Ending.{AreQuiet, EndsTelling, most_passes}
 use Rattle.settling_laws.specs.Rounds.{EndsAnswering, IsStanding, left_in}
+use Rattle.settling_laws.proofs.Loop.{answering_stays_quiet}
 use Rattle.settling_laws.proofs.Passes.{EndsAfter, IsBlind, answering_is_blind, as_many, comes_nearer, loop_ends, passes_left, stands_unlinked, telling_is_blind, unlinked}
 use Rattle.datacentre.specs.Seen.{DatacentreState}
-use Rattle.world.specs.Settled.{AreAnswered, Plays}
+use Rattle.world.specs.Settled.{AreAnswered, AreCalm, Plays}
 use Rattle.world.specs.Showing.{states_from}
 use Rattle.world.specs.Taking.{HasTaken, IsTaken, StagesState, Taken, settled, stages_after}
 use Rattle.world.proofs.KnownLemmas.{known_of}
-use Rattle.world.proofs.QuietLemmas.{quiet_after}
 use Rattle.world.proofs.SettledLemmas.{IsSoFar, after_so_far, stages_played}
 use Rattle.world.proofs.TakingLemmas.{run_of}
 
@@ -117,13 +117,13 @@ answers_end s law h =
     }
 
 -- Telling ends, within two passes for each record that a log may get.
-pub tells_end : (s : StagesState) → ((w : World) (z : Stages) → IsLawful w → StandsFor w z → AreQuiet w.workload z → is_answering z ≡ false → EndsTelling w.workload z) → IsTaken s → AreAnswered s.network.datacentres
+pub tells_end : (s : StagesState) → ((w : World) (z : Stages) → IsLawful w → StandsFor w z → AreQuiet w.workload z → is_answering z ≡ false → EndsTelling w.workload z) → IsTaken s → AreCalm s.workload s.network.datacentres → AreAnswered s.network.datacentres
     → Ends is_unfinished telling_rounds (most_passes s.workload) s
-tells_end s law h answered =
+tells_end s law h calm answered =
     let load : Workload = h.script.workload in
     let z : Stages = stages_after h.script h.turns in
     let at : IsStanding load z = stands_after h.script h.turns s h.taken in
-    let quiet : AreQuiet load z = quiet_after h.script h.turns h.taken.fits h.taken.steps h.taken.built in
+    let quiet : AreQuiet load z = subst (λ l. AreQuiet l z) h.taken.workload (calm z (known_of h.script h.turns s h.taken)) in
     let ends : EndsTelling load z = subst (λ l. EndsTelling l z) at.workload (law at.world z at.lawful at.stands (subst (λ l. AreQuiet l z) (sym at.workload) quiet) (answered z (known_of h.script h.turns s h.taken))) in
     record {
       taken = h;
@@ -132,3 +132,36 @@ tells_end s law h answered =
       after = loop_ends is_unfinished telling_rounds load z ends.passes ends.turns ends.loop;
       few = omega (arith, ends.few, ap most_passes h.taken.workload);
     }
+
+-- The marks leave no announcement, and the rounds of answering bring none.
+
+-- stages that the same datacentres show are the same
+same_shown : (z y : Stages) (xs : List DatacentreState) → xs ≡ states_from 0 z.datacentres → xs ≡ states_from 0 y.datacentres → z.datacentres ≡ y.datacentres
+same_shown z y xs of_z of_y =
+    sym (seen_all 0 z.datacentres) ∙ ap (map (λ (x : DatacentreState). or_nowhere x.stages)) (sym of_z ∙ of_y) ∙ seen_all 0 y.datacentres
+
+-- what is quiet is so for all that may be known of the datacentres
+calm_by : (script : Script) (ts : List Taken) (s : StagesState) → HasTaken script ts s → AreQuiet script.workload (stages_after script ts) → AreCalm s.workload s.network.datacentres
+calm_by script ts s h quiet z known d within =
+    ap (λ zs. (get_or zs d nowhere_at).announcement) (same_shown z (stages_after script ts) s.network.datacentres known.shown h.shown.datacentres)
+    ∙ quiet d (omega (arith, within, ap (λ (l : Workload). l.dcs) h.workload))
+
+pub marks_calm : (a b : StagesState) → ((w : World) (z : Stages) → IsLawful w → StandsFor w z → AreQuiet w.workload (after_steps w.workload z (all_marks z))) → IsTaken a → Plays (λ load z xs. xs ≡ all_marks z) a b → AreCalm b.workload b.network.datacentres
+marks_calm a b law h plays =
+    let load : Workload = h.script.workload in
+    let z : Stages = stages_after h.script h.turns in
+    let at : IsStanding load z = stands_after h.script h.turns a h.taken in
+    let one = plays h.script h.turns h.taken in
+    let quiet : AreQuiet load (after_steps load z (all_marks z)) = subst (λ l. AreQuiet l (after_steps l z (all_marks z))) at.workload (law at.world z at.lawful at.stands) in
+    calm_by h.script (h.turns ++ settled one.steps) b one.taken
+    (subst (AreQuiet load) (sym (stages_played h.script h.turns one.steps ∙ ap (after_steps load z) one.are)) quiet)
+
+pub answering_calm : (a b : StagesState) → IsTaken a → AreCalm a.workload a.network.datacentres → Plays (IsSoFar is_answering answering_rounds) a b → AreCalm b.workload b.network.datacentres
+answering_calm a b h calm plays =
+    let load : Workload = h.script.workload in
+    let z : Stages = stages_after h.script h.turns in
+    let at : IsStanding load z = stands_after h.script h.turns a h.taken in
+    let one = plays h.script h.turns h.taken in
+    let quiet : AreQuiet load z = subst (λ l. AreQuiet l z) h.taken.workload (calm z (known_of h.script h.turns a h.taken)) in
+    calm_by h.script (h.turns ++ settled one.steps) b one.taken
+    (subst (AreQuiet load) (sym (stages_played h.script h.turns one.steps ∙ after_so_far is_answering answering_rounds load z one.steps one.are)) (answering_stays_quiet load z at one.are.passes quiet))

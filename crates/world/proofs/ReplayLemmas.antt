@@ -16,7 +16,7 @@ use Rattle.log_laws.specs.Lawful.{IsLawful}
 use Rattle.log_laws.proofs.LimitedRuns.{laws_of_run, workload_is}
 use Rattle.stage_world.specs.Stages.{Stages}
 use Rattle.stage_world.specs.Opening.{opening}
-use Rattle.abstract_log.specs.Turns.{IsBuiltStep, IsStep}
+use Rattle.abstract_log.specs.Turns.{IsStep}
 use Rattle.stage_world.specs.Schedules.{after_steps, events_of, step_of}
 use Rattle.stage_world.specs.Settling.{IsSettling}
 use Rattle.stage_world.specs.Whole.{StandsFor}
@@ -93,9 +93,6 @@ replayed script s result settles finished is = record {
 pub step_fits : (script : Script) (ts : List Taken) (s : StagesState) (items : List Step) (i : ℕ) (x : Step) → items ≡ script.steps → HasTaken script ts s → All (IsStep script.workload) script.steps → i < length items → x ≡ get_or items i x → IsStep s.workload x
 step_fits script ts s items i x same h all within is =
     subst (λ l. IsStep l x) (sym h.workload) (subst (IsStep script.workload) (sym is) (All-get_or (IsStep script.workload) items i x within (subst (All (IsStep script.workload)) (sym same) all)))
-
-pub step_built : (steps xs : List Step) (i : ℕ) (x : Step) → xs ≡ steps → All IsBuiltStep steps → i < length xs → x ≡ get_or xs i x → IsBuiltStep x
-step_built steps xs i x same all within is = subst IsBuiltStep (sym is) (All-get_or IsBuiltStep xs i x within (subst (All IsBuiltStep) (sym same) all))
 
 taken_next_step : (xs : List Step) (i : ℕ) (x : Step) → i < length xs → x ≡ get_or xs i x → taken_of (take i xs) ++ record { step = x; settling = false } ∷ [] ≡ taken_of (take (i + 1) xs)
 taken_next_step xs i x within is =

@@ -6,6 +6,7 @@ use Rattle.std.proofs.lemmas.List.{flat_map_more, map_push}
 use Rattle.std.proofs.lemmas.List.Elements.{All-nil, All-head, All-tail, All-append, All-push, filter-append}
 use Rattle.stage_world.specs.Opening.{numbered}
 use Rattle.stage_world.specs.Settling.{below}
+pub use Rattle.stage_world.proofs.OpeningLemmas.{all_below, all_flat, all_numbered}
 
 pub numbered_more : {X : Type 0} (f : ℕ → X) (start xs : List X) (i : ℕ) → xs ≡ start ++ numbered f i → xs ++ f i ∷ [] ≡ start ++ numbered f (i + 1)
 numbered_more f start xs i is =
@@ -43,16 +44,3 @@ filter_next p xs ys i d passes next is same before =
 -- a piece more
 pub flat_next : {X : Type 0} (f : ℕ → List X) (xs ys y : List X) (i : ℕ) → ys ≡ xs ++ y → y ≡ f i → xs ≡ flat_map f (below i) → ys ≡ flat_map f (below (i + 1))
 flat_next f xs ys y i next is before = next ∙ ap (λ zs. xs ++ zs) is ∙ flat_more f [] xs i before
-
--- What all of a list have
-
-pub all_numbered : {X : Type 0} (P : X → Type 0) (f : ℕ → X) (n : ℕ) → ((i : ℕ) → i < n → P (f i)) → All P (numbered f n)
-all_numbered P f zero each = All-nil P
-all_numbered P f (suc n) each = All-push P (numbered f n) (f n) (all_numbered P f n (λ i within. each i (omega (arith, within)))) (each n (omega arith))
-
-pub all_flat : {X Y : Type 0} (P : X → Type 0) (Q : Y → Type 0) (f : Y → List X) (ys : List Y) → ((y : Y) → Q y → All P (f y)) → All Q ys → All P (flat_map f ys)
-all_flat P Q f [] each all = All-nil P
-all_flat P Q f (y ∷ ys) each all = All-append P (f y) (flat_map f ys) (each y (All-head Q y ys all)) (all_flat P Q f ys each (All-tail Q y ys all))
-
-pub all_below : (n : ℕ) → All (λ i. i < n) (below n)
-all_below n = all_numbered (λ i. i < n) (λ i. i) n (λ i within. within)

@@ -1,6 +1,6 @@
 -- Turns of settling one after another.
 use Rattle.std.proofs.Common.{◌≡◌, Result, Ok, Err, OnOk, ℕ, zero, suc, ◌+◌, ◌<◌, ◌≤◌, Bool, true, false, List, [], ◌∷◌, ◌++◌, length, take, get_or, refl, ap, ap₂, sym, ◌∙◌, subst, arith, add-one, append_assoc, below_more}
-use Rattle.std.specs.List.{All, filter}
+use Rattle.std.specs.List.{All, filter, flat_map}
 use Rattle.std.proofs.lemmas.Bool.{cond-true, cond-false}
 use Rattle.std.proofs.lemmas.List.{append-nil, map-append}
 use Rattle.std.proofs.lemmas.List.Elements.{All-filter, All-get_or}
@@ -13,10 +13,10 @@ use Rattle.stage_world.specs.Opening.{opening}
 use Rattle.abstract_log.specs.declared.script.Step.TheVariants.{Deliver, Send}
 use Rattle.stage_world.specs.LinkTurns.{link_length}
 use Rattle.stage_world.specs.Whole.{datacentre_at}
-use Rattle.abstract_log.specs.Turns.{AreTwo, IsBuiltStep, IsStep}
+use Rattle.abstract_log.specs.Turns.{AreTwo, IsStep}
 use Rattle.stage_world.specs.Schedules.{after_steps, step_of}
-use Rattle.stage_world.specs.Settling.{Errand, IsSettling, after_passes, all_rounds, answering_rounds, below, errand_turns, errands, exchange, exchange_turns, has_unanswered, is_answering, is_due, is_unfinished, rounds, sent_and_delivered, telling_rounds, turns_of_passes}
-use Rattle.world.specs.Settled.{HasLooped, MayBePlayed, Plays}
+use Rattle.stage_world.specs.Settling.{AreSettlingRounds, Errand, IsSettling, all_marks, after_passes, all_rounds, answering_rounds, below, errand_turns, errands, exchange, exchange_turns, has_unanswered, is_answering, is_due, is_unfinished, marks, rounds, sent_and_delivered, telling_rounds, turns_of_passes}
+use Rattle.world.specs.Settled.{HasLooped, Plays}
 use Rattle.world.specs.Links.{AreThere, packets_at}
 use Rattle.world.proofs.MovingLemmas.{length_are, links_there}
 use Rattle.world.proofs.RoundLemmas.{all_below, take_all}
@@ -174,9 +174,9 @@ record AreLoops (load : Workload) (z : Stages) (xs : List Step) : Type 0 where
   second : HasLooped is_unfinished telling_rounds load (after_steps load z answering) telling
   are : xs ≡ answering ++ telling
 
-pub plays_settling : (a b c d : StagesState) → Plays (HasLooped is_answering answering_rounds) a b → Plays (HasLooped is_unfinished telling_rounds) b c → Plays (λ load z xs. xs ≡ all_rounds z) c d → Plays IsSettling a d
-plays_settling a b c d first second last =
-    plays_then AreLoops (λ load z xs. xs ≡ all_rounds z) IsSettling a c d
+plays_settling_rounds : (a b c d : StagesState) → Plays (HasLooped is_answering answering_rounds) a b → Plays (HasLooped is_unfinished telling_rounds) b c → Plays (λ load z xs. xs ≡ all_rounds z) c d → Plays AreSettlingRounds a d
+plays_settling_rounds a b c d first second last =
+    plays_then AreLoops (λ load z xs. xs ≡ all_rounds z) AreSettlingRounds a c d
     (λ load z xs ys loops rounds. record {
       answering = loops.answering;
       answers = loops.first.passes;
@@ -190,12 +190,22 @@ plays_settling a b c d first second last =
     (λ load z xs ys one two. record { answering = xs; first = one; telling = ys; second = two; are = refl }) first second)
     last
 
+-- the marks, and the rounds after them
+pub plays_settling : (a m b c d : StagesState) → Plays (λ load z xs. xs ≡ all_marks z) a m → Plays (HasLooped is_answering answering_rounds) m b → Plays (HasLooped is_unfinished telling_rounds) b c
+    → Plays (λ load z xs. xs ≡ all_rounds z) c d → Plays IsSettling a d
+plays_settling a m b c d marked first second last =
+    plays_then (λ load z xs. xs ≡ all_marks z) AreSettlingRounds IsSettling a m d
+    (λ load z xs ys first second. record {
+      rounds = ys;
+      settled = subst (λ us. AreSettlingRounds load (after_steps load z us) ys) first second;
+      turns = ap (λ us. us ++ ys) first;
+    })
+    marked (plays_settling_rounds m b c d first second last)
+
 -- the turn that comes next may be taken
-pub item_may : (P : Such) (items : List Step) (i : ℕ) (x : Step) (a b : StagesState) → Plays P a b → IsTaken a → MayBePlayed a.workload items → i < length items → x ≡ get_or items i x → IsStep b.workload x × IsBuiltStep x
-item_may P items i x a b plays taken may within here = (
-  subst (λ l. IsStep l x) (sym (workload_kept P a b plays taken)) (subst (IsStep a.workload) (sym here) (All-get_or (IsStep a.workload) items i x within may.0)),
-  subst IsBuiltStep (sym here) (All-get_or IsBuiltStep items i x within may.1),
-)
+pub item_may : (P : Such) (items : List Step) (i : ℕ) (x : Step) (a b : StagesState) → Plays P a b → IsTaken a → All (IsStep a.workload) items → i < length items → x ≡ get_or items i x → IsStep b.workload x
+item_may P items i x a b plays taken may within here =
+    subst (λ l. IsStep l x) (sym (workload_kept P a b plays taken)) (subst (IsStep a.workload) (sym here) (All-get_or (IsStep a.workload) items i x within may))
 
 -- all were taken
 pub plays_all : (items : List Step) (i : ℕ) (a b : StagesState) → length items ≤ i → Plays (AreThese (take i items)) a b → Plays (AreThese items) a b
@@ -276,8 +286,8 @@ ended_with (Ok v) P step b c takes so = so (plays_one step b c takes)
 ended_with (Err e) P step b c takes so = tt
 
 -- steps that the stages decide may be played
-pub decided_may : (steps : List Step) (ds : List ℕ) (s : StagesState) → (h : IsTaken s) → All (λ d. d < s.workload.dcs) ds → steps ≡ rounds (stages_after h.script h.turns) ds → MayBePlayed s.workload steps
-decided_may steps ds s h there are = subst (MayBePlayed s.workload) (sym are) (rounds_may h.script h.turns s ds h.taken there)
+pub decided_may : (steps : List Step) (ds : List ℕ) (s : StagesState) → (h : IsTaken s) → All (λ d. d < s.workload.dcs) ds → steps ≡ rounds (stages_after h.script h.turns) ds → All (IsStep s.workload) steps
+decided_may steps ds s h there are = subst (All (IsStep s.workload)) (sym are) (rounds_may h.script h.turns s ds h.taken there)
 
 -- rounds of datacentres that the stages decide
 pub plays_rounds : (ds : List ℕ) (F : Workload → Stages → List Step) (a b : StagesState) → ((script : Script) (ts : List Taken) → HasTaken script ts a → rounds (stages_after script ts) ds ≡ F script.workload (stages_after script ts))
@@ -292,6 +302,9 @@ count_after script ts s h = h.shown.count ∙ ap (λ (l : Workload). l.dcs) (sym
 
 pub all_are : (script : Script) (ts : List Taken) (s : StagesState) (ds : List ℕ) → HasTaken script ts s → ds ≡ below s.workload.dcs → rounds (stages_after script ts) ds ≡ all_rounds (stages_after script ts)
 all_are script ts s ds h is = ap (rounds (stages_after script ts)) (is ∙ ap below (sym (count_after script ts s h)))
+
+pub marks_are : (script : Script) (ts : List Taken) (s : StagesState) (steps : List Step) → HasTaken script ts s → steps ≡ flat_map marks (below s.workload.dcs) → steps ≡ all_marks (stages_after script ts)
+marks_are script ts s steps h is = is ∙ ap (λ n. flat_map marks (below n)) (sym (count_after script ts s h))
 
 pub all_within : (s : StagesState) (ds : List ℕ) → ds ≡ below s.workload.dcs → All (λ d. d < s.workload.dcs) ds
 all_within s ds is = subst (All (λ d. d < s.workload.dcs)) (sym is) (all_below s.workload.dcs)

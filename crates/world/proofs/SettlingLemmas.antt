@@ -1,87 +1,85 @@
 -- The turns of settling may be taken.
 use Rattle.std.proofs.Common.{◌≡◌, ℕ, ◌+◌, ◌<◌, ◌%◌, eqb, List, [], ◌∷◌, ◌++◌, length, sym, subst}
-use Rattle.std.specs.List.{All}
+use Rattle.std.specs.List.{All, flat_map}
 use Rattle.std.proofs.lemmas.Bool.{cond_both, eqb-false}
 use Rattle.std.proofs.lemmas.List.Elements.{All-nil, All-cons, All-append, All-map, All-weaker}
 use Rattle.abstract_log.specs.declared.command.Workload.{Workload}
 use Rattle.abstract_log.specs.declared.script.Script.{Script}
 use Rattle.abstract_log.specs.declared.script.Step.{Step}
-use Rattle.abstract_log.specs.declared.script.Step.TheVariants.{Client, Flush, Gossip, Learn, Pass, Place, Post, Stamp, Token}
+use Rattle.abstract_log.specs.declared.script.Step.TheVariants.{Client, Flush, Gossip, Learn, Mark, Pass, Place, Post, Stamp, Token}
 use Rattle.abstract_log.specs.declared.world.World.{World}
 use Rattle.log_laws.proofs.LimitedRuns.{workload_is}
 use Rattle.abstract_log.specs.Worlds.{log_of}
 use Rattle.abstract_log.specs.Runs.{world_of}
 use Rattle.stage_world.specs.Opening.{numbered}
-use Rattle.abstract_log.specs.Turns.{AreTwo, IsBuiltStep, IsStep}
-use Rattle.stage_world.specs.Settling.{Errand, below, clients, errands, flushes, gossips, local_round, passes, places, posts, ring, rounds}
+use Rattle.abstract_log.specs.Turns.{AreTwo, IsStep}
+use Rattle.stage_world.specs.Settling.{Errand, below, clients, errands, flushes, gossips, local_round, mark_turns, marks, passes, places, posts, ring, rounds}
 use Rattle.stage_world.specs.Stages.{Datacentre, Session, Stages}
 use Rattle.stage_world.specs.StandsFor.{IsAsFar, StandsAt}
 use Rattle.stage_world.specs.Whole.{StandsFor, datacentre_at}
-use Rattle.world.specs.Settled.{MayBePlayed, errands_between, errands_from}
+use Rattle.world.specs.Settled.{errands_between, errands_from}
 use Rattle.world.specs.Taking.{HasTaken, StagesState, Taken, stages_after}
 use Rattle.world.proofs.RoundLemmas.{all_below, all_flat, all_numbered}
 use Rattle.world.proofs.TakingLemmas.{run_of}
 
--- a step that a script may have, of a kind that is built
-abbrev Good : Workload → Step → Type 0
-Good load step = IsStep load step × IsBuiltStep step
-
-both : (load : Workload) (steps : List Step) → All (Good load) steps → MayBePlayed load steps
-both load steps all = (All-weaker (Good load) (IsStep load) (λ s g. g.0) steps all, All-weaker (Good load) IsBuiltStep (λ s g. g.1) steps all)
-
 module _ (load : Workload) (d : ℕ) (z : Datacentre) (within : d < load.dcs) where
-  clients_good : All (λ (x : Session). x.number < length load.sessions) z.sessions → All (Good load) (clients z)
-  clients_good there = All-map (Good load) (λ (x : Session). Client x.number) z.sessions (All-weaker (λ (x : Session). x.number < length load.sessions) (λ x. Good load (Client x.number)) (λ x less. (less, tt)) z.sessions there)
+  clients_good : All (λ (x : Session). x.number < length load.sessions) z.sessions → All (IsStep load) (clients z)
+  clients_good there = All-map (IsStep load) (λ (x : Session). Client x.number) z.sessions (All-weaker (λ (x : Session). x.number < length load.sessions) (λ x. IsStep load (Client x.number)) (λ x less. less) z.sessions there)
 
-  ring_good : All (Good load) (ring d z)
+  ring_good : All (IsStep load) (ring d z)
   ring_good =
-      all_flat (Good load) (λ i. i < length z.queues) (λ i. Stamp d ((z.token.at + i) % length z.queues) ∷ Token d ∷ []) (below (length z.queues))
-      (λ i any. All-cons (Good load) (Stamp d ((z.token.at + i) % length z.queues)) (Token d ∷ []) (within, tt) (All-cons (Good load) (Token d) [] (within, tt) (All-nil (Good load)))) (all_below (length z.queues))
+      all_flat (IsStep load) (λ i. i < length z.queues) (λ i. Stamp d ((z.token.at + i) % length z.queues) ∷ Token d ∷ []) (below (length z.queues))
+      (λ i any. All-cons (IsStep load) (Stamp d ((z.token.at + i) % length z.queues)) (Token d ∷ []) within (All-cons (IsStep load) (Token d) [] within (All-nil (IsStep load)))) (all_below (length z.queues))
 
-  places_good : All (Good load) (places d z)
+  places_good : All (IsStep load) (places d z)
   places_good =
-      all_flat (Good load) (λ i. i < length z.queues) (λ q. numbered (Place d q) (length z.maintainers)) (below (length z.queues))
-      (λ q any. all_numbered (Good load) (Place d q) (length z.maintainers) (λ m less. (within, tt))) (all_below (length z.queues))
+      all_flat (IsStep load) (λ i. i < length z.queues) (λ q. numbered (Place d q) (length z.maintainers)) (below (length z.queues))
+      (λ q any. all_numbered (IsStep load) (Place d q) (length z.maintainers) (λ m less. within)) (all_below (length z.queues))
 
-  gossips_good : All (Good load) (gossips d z)
+  gossips_good : All (IsStep load) (gossips d z)
   gossips_good =
-      all_flat (Good load) (λ i. i < length z.maintainers) (λ m. numbered (Gossip d m) (length z.maintainers)) (below (length z.maintainers))
-      (λ m any. all_numbered (Good load) (Gossip d m) (length z.maintainers) (λ k less. (within, tt))) (all_below (length z.maintainers))
+      all_flat (IsStep load) (λ i. i < length z.maintainers) (λ m. numbered (Gossip d m) (length z.maintainers)) (below (length z.maintainers))
+      (λ m any. all_numbered (IsStep load) (Gossip d m) (length z.maintainers) (λ k less. within)) (all_below (length z.maintainers))
 
-  posts_good : All (Good load) (posts d z)
+  posts_good : All (IsStep load) (posts d z)
   posts_good =
-      all_flat (Good load) (λ i. i < length z.maintainers) (λ m. numbered (Post d m) (length z.indexers)) (below (length z.maintainers))
-      (λ m any. all_numbered (Good load) (Post d m) (length z.indexers) (λ i less. (within, tt))) (all_below (length z.maintainers))
+      all_flat (IsStep load) (λ i. i < length z.maintainers) (λ m. numbered (Post d m) (length z.indexers)) (below (length z.maintainers))
+      (λ m any. all_numbered (IsStep load) (Post d m) (length z.indexers) (λ i less. within)) (all_below (length z.maintainers))
 
-  round_good : All (λ (x : Session). x.number < length load.sessions) z.sessions → All (Good load) (local_round d z)
+  round_good : All (λ (x : Session). x.number < length load.sessions) z.sessions → All (IsStep load) (local_round d z)
   round_good there =
-      let G : Step → Type 0 = Good load in
-      let flush : All G (flushes d z) = all_numbered G (Flush d) (length z.batchers) (λ b less. (within, tt)) in
-      let pass : All G (passes d z) = all_numbered G (λ f. Pass d f (f % length z.queues)) (length z.filters) (λ f less. (within, tt)) in
+      let G : Step → Type 0 = IsStep load in
+      let flush : All G (flushes d z) = all_numbered G (Flush d) (length z.batchers) (λ b less. within) in
+      let pass : All G (passes d z) = all_numbered G (λ f. Pass d f (f % length z.queues)) (length z.filters) (λ f less. within) in
       let one = All-append G (clients z) (flushes d z) (clients_good there) flush in
       let two = All-append G (clients z ++ flushes d z) (passes d z) one pass in
       let three = All-append G (clients z ++ flushes d z ++ passes d z) (ring d z) two ring_good in
       let four = All-append G (clients z ++ flushes d z ++ passes d z ++ ring d z) (places d z) three places_good in
       let five = All-append G (clients z ++ flushes d z ++ passes d z ++ ring d z ++ places d z) (gossips d z) four gossips_good in
       let six = All-append G (clients z ++ flushes d z ++ passes d z ++ ring d z ++ places d z ++ gossips d z) (posts d z) five posts_good in
-      All-append G (clients z ++ flushes d z ++ passes d z ++ ring d z ++ places d z ++ gossips d z ++ posts d z) (Learn d ∷ []) six (All-cons G (Learn d) [] (within, tt) (All-nil G))
+      All-append G (clients z ++ flushes d z ++ passes d z ++ ring d z ++ places d z ++ gossips d z ++ posts d z) (Learn d ∷ []) six (All-cons G (Learn d) [] within (All-nil G))
 
 -- the sessions of a datacentre are there
 sessions_there : (w : World) (d : ℕ) (z : Datacentre) → StandsAt w d z → All (λ (x : Session). x.number < length w.workload.sessions) z.sessions
 sessions_there w d z stands = All-weaker (IsAsFar w.workload w.sessions (log_of w d) d z.floor) (λ (x : Session). x.number < length w.workload.sessions) (λ x far. far.home.there) z.sessions stands.clients.sessions
 
-pub rounds_may : (script : Script) (ts : List Taken) (s : StagesState) (ds : List ℕ) → HasTaken script ts s → All (λ d. d < s.workload.dcs) ds → MayBePlayed s.workload (rounds (stages_after script ts) ds)
+pub rounds_may : (script : Script) (ts : List Taken) (s : StagesState) (ds : List ℕ) → HasTaken script ts s → All (λ d. d < s.workload.dcs) ds → All (IsStep s.workload) (rounds (stages_after script ts) ds)
 rounds_may script ts s ds h there =
     let w : World = world_of s.workload s.events in
     let z : Stages = stages_after script ts in
     let stands : StandsFor w z = (run_of script ts s h).1 in
     let load : w.workload ≡ s.workload = workload_is s.workload s.events in
-    both s.workload (rounds z ds)
-    (all_flat (Good s.workload) (λ d. d < s.workload.dcs) (λ d. local_round d (datacentre_at z d)) ds
+    all_flat (IsStep s.workload) (λ d. d < s.workload.dcs) (λ d. local_round d (datacentre_at z d)) ds
     (λ d within. round_good s.workload d (datacentre_at z d) within
     (subst (λ (l : Workload). All (λ (x : Session). x.number < length l.sessions) (datacentre_at z d).sessions) load
     (sessions_there w d (datacentre_at z d) (stands.each d (subst (λ (l : Workload). d < l.dcs) (sym load) within)))))
-    there)
+    there
+
+-- the marks of all datacentres are steps
+pub marks_may : (load : Workload) (steps : List Step) → steps ≡ flat_map marks (below load.dcs) → All (IsStep load) steps
+marks_may load steps is =
+    subst (All (IsStep load)) (sym is)
+    (all_flat (IsStep load) (λ d. d < load.dcs) marks (below load.dcs) (λ d within. all_numbered (IsStep load) (λ _. Mark d) mark_turns (λ i less. within)) (all_below load.dcs))
 
 -- Errands are between two
 

@@ -15,7 +15,7 @@ use Rattle.abstract_log.specs.Runs.{IsRun, world_of}
 use Rattle.log_laws.proofs.LimitedRuns.{laws_of_run, workload_is}
 use Rattle.stage_world.specs.Stages.{Stages}
 use Rattle.stage_world.specs.Opening.{opening}
-use Rattle.abstract_log.specs.Turns.{IsBuiltStep, IsStep}
+use Rattle.abstract_log.specs.Turns.{IsStep}
 use Rattle.stage_world.specs.Schedules.{after_steps, events_of, step_of}
 use Rattle.stage_world.specs.Idle.{IsIdleTurn}
 use Rattle.stage_world.specs.Whole.{StandsFor}
@@ -71,8 +71,8 @@ run_of script ts s h =
       subst (λ l. StandsFor (world_of l s.events) (stages_after script ts)) (sym h.workload) (subst (λ es. StandsFor (world_of script.workload es) (stages_after script ts)) (sym h.events) run.1),
     )
 
-pub may_take : (script : Script) (ts : List Taken) (s : StagesState) (step : Step) → HasTaken script ts s → IsStep s.workload step → IsBuiltStep step → MayStep s.workload step (stages_after script ts) s.network
-may_take script ts s step h good built =
+pub may_take : (script : Script) (ts : List Taken) (s : StagesState) (step : Step) → HasTaken script ts s → IsStep s.workload step → MayStep s.workload step (stages_after script ts) s.network
+may_take script ts s step h good =
     let run = run_of script ts s h in
     record {
       world = world_of s.workload s.events;
@@ -81,12 +81,11 @@ may_take script ts s step h good built =
       stands = run.1;
       shown = subst (λ (l : Workload). Shows l.dcs (stages_after script ts) s.network) (sym h.workload) h.shown;
       fits = good;
-      built = built;
     }
 
 -- some turns were taken, so one more may be
-pub may_take_some : (s : StagesState) (step : Step) → IsTaken s → IsStep s.workload step → IsBuiltStep step → (z : Stages) × MayStep s.workload step z s.network
-may_take_some s step h good built = (stages_after h.script h.turns, may_take h.script h.turns s step h.taken good built)
+pub may_take_some : (s : StagesState) (step : Step) → IsTaken s → IsStep s.workload step → (z : Stages) × MayStep s.workload step z s.network
+may_take_some s step h good = (stages_after h.script h.turns, may_take h.script h.turns s step h.taken good)
 
 -- the state after one more turn
 abbrev pub state_with : StagesState → Network → List Event → List StageLine → StagesState
@@ -98,7 +97,7 @@ state_with s network events more = record {
   failed = false;
 }
 
-module _ (s : StagesState) (step : Step) (settling : Bool) (network : Network) (done : TurnDone) (more : List StageLine) (good : IsStep s.workload step) (built : IsBuiltStep step) where
+module _ (s : StagesState) (step : Step) (settling : Bool) (network : Network) (done : TurnDone) (more : List StageLine) (good : IsStep s.workload step) where
   -- what one more turn does to all, and what it writes
   abbrev Moves : Stages → Type 0
   Moves z = HasMoved s.workload.dcs (step_of s.workload z step) network done × Wrote s.workload z step settling done.outcome more
@@ -114,7 +113,6 @@ module _ (s : StagesState) (step : Step) (settling : Bool) (network : Network) (
       let wrote : Wrote load now step settling done.outcome more = subst (λ (l : Workload). Wrote l now step settling done.outcome more) h.workload does.1 in
       record {
         fits = h.fits;
-        built = subst (All IsBuiltStep) (sym steps) (All-push IsBuiltStep (steps_of ts) step h.built built);
         steps = subst (All (IsStep load)) (sym steps) (All-push (IsStep load) (steps_of ts) step h.steps (subst (λ l. IsStep l step) h.workload good));
         well = refl;
         workload = h.workload;
@@ -129,7 +127,7 @@ module _ (s : StagesState) (step : Step) (settling : Bool) (network : Network) (
   some_next moves h = record {
     script = h.script;
     turns = h.turns ++ record { step = step; settling = settling } ∷ [];
-    taken = taken_next h.script h.turns h.taken (moves (stages_after h.script h.turns) (may_take h.script h.turns s step h.taken good built));
+    taken = taken_next h.script h.turns h.taken (moves (stages_after h.script h.turns) (may_take h.script h.turns s step h.taken good));
   }
 
 pub played : (script : Script) (ts : List Taken) (s : StagesState) (result : Played) → HasTaken script ts s → result.run.workload ≡ s.workload → result.run.events ≡ s.events → result.stages ≡ s.lines
@@ -151,7 +149,7 @@ played script ts s result h workload events lines left =
 
 -- What was written is as the code has it.
 module _ (s : StagesState) (step : Step) (settling : Bool) (network : Network) (done : TurnDone) (more : List StageLine) (es : List Event) (ls : List StageLine) (events : es ≡ s.events ++ done.events)
-    (lines : ls ≡ s.lines ++ more) (good : IsStep s.workload step) (built : IsBuiltStep step)
+    (lines : ls ≡ s.lines ++ more) (good : IsStep s.workload step)
     (moves : (z : Stages) → MayStep s.workload step z s.network → HasMoved s.workload.dcs (step_of s.workload z step) network done × Wrote s.workload z step settling done.outcome more) where
   abbrev new : StagesState
   new = record { workload = s.workload; network = network; events = es; lines = ls; failed = false }
@@ -160,12 +158,12 @@ module _ (s : StagesState) (step : Step) (settling : Bool) (network : Network) (
   written = ap₂ (λ (a : List Event) (b : List StageLine). record { workload = s.workload; network = network; events = a; lines = b; failed = false }) (sym events) (sym lines)
 
   pub some_written : IsTaken s → IsTaken new
-  some_written h = subst IsTaken written (some_next s step settling network done more good built moves h)
+  some_written h = subst IsTaken written (some_next s step settling network done more good moves h)
 
   pub taken_written : (script : Script) (ts : List Taken) → HasTaken script ts s → HasTaken script (ts ++ record { step = step; settling = settling } ∷ []) new
   taken_written script ts h =
       subst (HasTaken script (ts ++ record { step = step; settling = settling } ∷ [])) written
-      (taken_next s step settling network done more good built script ts h (moves (stages_after script ts) (may_take script ts s step h good built)))
+      (taken_next s step settling network done more good script ts h (moves (stages_after script ts) (may_take script ts s step h good)))
 
   pub run_written : IsTaken s → IsRun s.workload es
   run_written h = let is : IsTaken new = some_written h in (run_of is.script is.turns new is.taken).0

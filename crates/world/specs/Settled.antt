@@ -9,9 +9,9 @@ use Rattle.abstract_log.specs.declared.world.World.{World}
 use Rattle.log_laws.specs.Lawful.{IsLawful}
 use Rattle.stage_world.specs.Stages.{Datacentre, Stages}
 use Rattle.stage_world.specs.Opening.{numbered}
-use Rattle.abstract_log.specs.Turns.{IsBuiltStep, IsStep}
 use Rattle.stage_world.specs.Settling.{Errand, IsLoop, below, is_answering}
 use Rattle.stage_world.specs.Whole.{StandsFor}
+use Rattle.settling_laws.specs.Ending.{AreQuiet}
 use Rattle.datacentre.specs.Seen.{DatacentreState, StandsForALog}
 use Rattle.world.specs.Showing.{states_from}
 use Rattle.world.specs.Taking.{HasTaken, StagesState, Taken, settled, stages_after}
@@ -31,10 +31,6 @@ pub record HasLooped (goes_on : Stages → Bool) (pass : Workload → Stages →
   pub passes : ℕ
   pub loop : IsLoop load goes_on pass z passes steps
 
--- steps that settling may take
-abbrev pub MayBePlayed : Workload → List Step → Type 0
-MayBePlayed load steps = All (IsStep load) steps × All IsBuiltStep steps
-
 -- The stages of this datacentre are z, which stand for a log.
 pub record IsKnown (d : ℕ) (z : Datacentre) (state : DatacentreState) : Type 0 where
   pub is : state ≡ record { dc = d; stages = Some z }
@@ -47,6 +43,10 @@ pub record AreKnown (z : Stages) (datacentres : List DatacentreState) : Type 0 w
   pub stands : StandsFor world z
   pub shown : datacentres ≡ states_from 0 z.datacentres
   pub few : length z.datacentres ≤ DATACENTRES
+
+-- no datacentre has an announcement on
+abbrev pub AreCalm : Workload → List DatacentreState → Type 0
+AreCalm load datacentres = (z : Stages) → AreKnown z datacentres → AreQuiet load z
 
 -- every command is answered
 abbrev pub AreAnswered : List DatacentreState → Type 0

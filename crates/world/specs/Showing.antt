@@ -11,7 +11,7 @@ use Rattle.record_codec.specs.Wire.{message_bytes}
 use Rattle.stage_world.specs.Stages.{Datacentre, Stages}
 use Rattle.stage_world.specs.Opening.{one_of_each, opening_at}
 use Rattle.stage_world.specs.LinkTurns.{Moved}
-use Rattle.abstract_log.specs.Turns.{IsBuiltStep, IsStep}
+use Rattle.abstract_log.specs.Turns.{IsStep}
 use Rattle.stage_world.specs.Schedules.{turn_of}
 use Rattle.stage_world.specs.Idle.{IsIdleTurn, TellsChange}
 use Rattle.stage_world.specs.Whole.{StandsFor}
@@ -20,7 +20,7 @@ use Rattle.stage_world.specs.Turns.{Turned}
 use Rattle.datacentre.specs.Seen.{DatacentreState, StandsForALog}
 use Rattle.stage_turns.specs.Told.{IsToldBy}
 use Rattle.world.specs.declared.network.Network.{Network}
-use Rattle.datacentre.specs.Turning.{IsBuilt, IsPacketOf}
+use Rattle.datacentre.specs.Turning.{IsOwnStep, IsPacketOf}
 
 -- datacentres from number n on, of which none has failed
 abbrev pub states_from : ℕ → List Datacentre → List DatacentreState
@@ -92,7 +92,7 @@ pub record MayTurnAt (d : ℕ) (step : Step) (datacentres : List DatacentreState
   pub stages : Datacentre
   pub seen : IsSeenAt d stages datacentres
   pub log : StandsForALog d stages
-  pub built : IsBuilt stages step
+  pub own : IsOwnStep stages step
 
 -- Datacentre d may send to e.
 pub record MaySendAt (d e : ℕ) (datacentres : List DatacentreState) : Type 0 where
@@ -131,4 +131,3 @@ pub record MayStep (load : Workload) (step : Step) (z : Stages) (network : Netwo
   pub stands : StandsFor world z
   pub shown : Shows load.dcs z network
   pub fits : IsStep load step
-  pub built : IsBuiltStep step

@@ -11,7 +11,7 @@ use Rattle.abstract_log.specs.Left.{left_of}
 use Rattle.abstract_log.specs.Runs.{IsRun, world_of}
 use Rattle.stage_world.specs.Stages.{Stages}
 use Rattle.stage_world.specs.Opening.{opening}
-use Rattle.abstract_log.specs.Turns.{IsBuiltStep, IsStep}
+use Rattle.abstract_log.specs.Turns.{IsStep}
 use Rattle.stage_world.specs.Schedules.{after_steps, events_of, step_of}
 use Rattle.stage_world.specs.Idle.{IsIdleTurn}
 use Rattle.stage_world.specs.Whole.{StandsFor}
@@ -73,7 +73,6 @@ pub record StagesState : Type 0 where
 pub record HasTaken (script : Script) (ts : List Taken) (s : StagesState) : Type 0 where
   pub fits : FitsScript script
   pub steps : All (IsStep script.workload) (steps_of ts)
-  pub built : All IsBuiltStep (steps_of ts)
   pub well : s.failed ≡ false
   pub workload : s.workload ≡ script.workload
   pub shown : Shows script.workload.dcs (stages_after script ts) s.network

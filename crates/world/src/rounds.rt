@@ -1,14 +1,45 @@
-//! The turns of local rounds, as a list: what the stages are when a round begins decides all of them.
-ghost use Rattle.std.specs.Prelude.{◌≡◌, ◌++◌, ◌<◌, ◌≤◌, ◌%◌, ◌^◌, flat_map, map, OnOk};
+//! The turns of marks and of local rounds, as lists: what the stages are when a round begins decides all of it.
+ghost use Rattle.std.specs.Prelude.{◌≡◌, ◌++◌, ◌<◌, ◌≤◌, ◌%◌, ◌^◌, flat_map, map, IfOk, OnOk};
+ghost use Rattle.cz_base.specs.declared.limits.TheConstants.{DATACENTRES};
 ghost use Rattle.stage_world.specs.Stages.{Datacentre as StagesAt, Session as SessionState};
-ghost use Rattle.stage_world.specs.Settling.{below, local_round};
+ghost use Rattle.stage_world.specs.Settling.{below, local_round, marks};
 ghost use Rattle.abstract_log.specs.declared.script.Step.TheVariants.{Client, Flush, Gossip, Pass, Place, Post};
 ghost use Rattle.stage_world.specs.Opening.{numbered};
 ghost use Rattle.world.specs.Settled.{IsKnown, ring_from};
 
 use abstract_log::Step;
+use cz_base::limits::MEMBERS;
 use cz_base::{DcId, NoMemory, Seq};
 use datacentre::{Datacentre, Session};
+use std::alloc::Global;
+
+// As often may an announcement have to take its next step: each filter is asked once, and then all take the grown map.
+const MARK_TURNS: usize = MEMBERS + 1;
+
+/// The marks of all datacentres.
+pub(crate) fn marks(alloc: Global, dcs: u32) -> Result<Seq<Step>, NoMemory>
+    requires { dcs ≤ DATACENTRES }
+    ensures { IfOk result (λ steps. steps ≡ flat_map marks (below dcs)) }
+{
+    let mut steps = Seq::new(alloc);
+    for number in 0..dcs {
+        let Some(d) = DcId::new(number) else {
+            unreachable!();
+        };
+        add_marks(&mut steps, d)?;
+    }
+    Ok(steps)
+}
+
+// Those of one datacentre, added to others.
+fn add_marks(steps: &mut Seq<Step>, d: DcId) -> Result<(), NoMemory>
+    ensures { OnOk result (steps.new ≡ steps.old ++ marks d) }
+{
+    for _turn in 0..MARK_TURNS {
+        steps.push(Step::Mark { d })?;
+    }
+    Ok(())
+}
 
 /// The turns of a local round of datacentre d, added to others.
 pub(crate) fn add_round(

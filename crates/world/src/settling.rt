@@ -2,22 +2,25 @@
 ghost use Rattle.std.specs.Prelude.{◌≡◌, ◌<◌, true, OnOk, OnErr, IsErr};
 ghost use Rattle.std.specs.List.{All};
 ghost use Rattle.abstract_log.specs.Runs.{IsFinished, IsRun, world_of};
-ghost use Rattle.abstract_log.specs.Turns.{AreTwo};
-ghost use Rattle.stage_world.specs.Settling.{IsSettling, all_rounds, answering_rounds, errand_turns, exchange_turns, is_answering, is_unfinished, rounds, sent_and_delivered, telling_rounds};
-ghost use Rattle.world.specs.Settled.{AreAnswered, HasLooped, MayBePlayed, Plays};
+ghost use Rattle.abstract_log.specs.Turns.{AreTwo, IsStep};
+ghost use Rattle.stage_world.specs.Settling.{IsSettling, all_marks, all_rounds, answering_rounds, errand_turns, exchange_turns, is_answering, is_unfinished, rounds, sent_and_delivered, telling_rounds};
+ghost use Rattle.world.specs.Settled.{AreAnswered, AreCalm, HasLooped, Plays};
 ghost use Rattle.world.specs.Taking.{IsTaken};
 
 use crate::exchanges::{Errand, errands};
 use crate::packets::packets_in;
+use crate::rounds::marks;
 use crate::settling_state::{all_of, answering, is_answering, is_due, is_unfinished, rounds};
 use crate::stages::Stages;
 use abstract_log::Step;
 use cz_base::{DcId, NoMemory};
-use settling_laws::{answering_ends, settled_worlds_are_finished, telling_ends};
+use settling_laws::{
+    answering_ends, marks_end_announcements, settled_worlds_are_finished, telling_ends,
+};
 
 impl Stages {
-    /// Takes the turns of settling: rounds until every command is answered, rounds and exchanges until every log has every
-    /// record, and a last round. Where memory is wanted it has failed.
+    /// Takes the turns of settling: marks until no announcement is on, rounds until every command is answered, rounds and exchanges
+    /// until every log has every record, and a last round. Where memory is wanted it has failed.
     pub fn settle(&mut self) -> Result<(), NoMemory>
         // Whatever turns were taken, those of settling were taken after them.
         ensures turns { OnOk result (Plays IsSettling self.old self.new) }
@@ -47,16 +50,30 @@ impl Stages {
         requires { IsTaken self.old }
         ensures { OnOk result (Plays IsSettling self.old self.new) }
     {
+        self.play_marks()?;
         self.play_until_answered()?;
         self.play_until_told()?;
         self.play_everywhere()
     }
 
+    // The marks of each datacentre, after which no announcement is on.
+    fn play_marks(&mut self) -> Result<(), NoMemory>
+        requires { IsTaken self.old }
+        ensures turns { OnOk result (Plays (λ load z steps. steps ≡ all_marks z) self.old self.new) }
+        ensures calm { OnOk result (AreCalm self.new.workload self.new.network.datacentres) }
+    {
+        marks_end_announcements();
+        let steps = marks(self.events.alloc(), self.workload.dcs)?;
+        self.play(steps.as_slice())
+    }
+
     // Local rounds where a command is not answered, until all are.
     fn play_until_answered(&mut self) -> Result<(), NoMemory>
-        requires { IsTaken self.old }
+        requires taken { IsTaken self.old }
+        requires calm { AreCalm self.old.workload self.old.network.datacentres }
         ensures turns { OnOk result (Plays (HasLooped is_answering answering_rounds) self.old self.new) }
         ensures answered { OnOk result (AreAnswered self.new.network.datacentres) }
+        ensures calm { OnOk result (AreCalm self.new.workload self.new.network.datacentres) }
     {
         answering_ends();
         while is_answering(&self.network.datacentres) {
@@ -68,6 +85,7 @@ impl Stages {
     // Local rounds and exchanges until every log has every record.
     fn play_until_told(&mut self) -> Result<(), NoMemory>
         requires taken { IsTaken self.old }
+        requires calm { AreCalm self.old.workload self.old.network.datacentres }
         requires answered { AreAnswered self.old.network.datacentres }
         ensures { OnOk result (Plays (HasLooped is_unfinished telling_rounds) self.old self.new) }
     {
@@ -122,7 +140,7 @@ impl Stages {
     // Takes these turns of settling.
     fn play(&mut self, steps: &[Step]) -> Result<(), NoMemory>
         requires taken { IsTaken self.old }
-        requires may { MayBePlayed self.old.workload steps.now }
+        requires may { All (IsStep self.old.workload) steps.now }
         ensures { OnOk result (Plays (λ load z played. played ≡ steps.now) self.old self.new) }
     {
         for step in steps {

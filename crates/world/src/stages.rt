@@ -4,7 +4,7 @@ ghost use Rattle.std.specs.Prelude.{◌≡◌, true, false, List, [], ◌∷◌,
 ghost use Rattle.abstract_log.specs.declared.script.Script.{Script as ScriptValue};
 ghost use Rattle.abstract_log.specs.Fits.{FitsScript};
 ghost use Rattle.abstract_log.specs.Runs.{IsRun};
-ghost use Rattle.abstract_log.specs.Turns.{IsBuiltStep, IsStep};
+ghost use Rattle.abstract_log.specs.Turns.{IsStep};
 ghost use Rattle.world.specs.Taking.{lines_told};
 
 use crate::leaving::leave;
@@ -68,7 +68,6 @@ impl Stages {
     /// Takes one turn, and writes its line and its events.
     pub fn turn(&mut self, step: &Step) -> Result<(), NoMemory>
         requires step { IsStep self.old.workload step.now }
-        requires built { IsBuiltStep step.now }
         // Whatever turns were taken, they are now one more.
         ensures taken { (script : ScriptValue) (ts : List Taken) → HasTaken script ts self.old → OnOk result (HasTaken script (ts ++ record { step = step.now; settling = false } ∷ []) self.new) }
 
@@ -84,7 +83,6 @@ impl Stages {
     // Takes one turn, and writes its line and its events; an idle turn of settling has no line.
     pub(crate) fn take(&mut self, step: &Step, settling: bool) -> Result<(), NoMemory>
         requires step { IsStep self.old.workload step.now }
-        requires built { IsBuiltStep step.now }
         ensures taken { (script : ScriptValue) (ts : List Taken) → HasTaken script ts self.old → OnOk result (HasTaken script (ts ++ record { step = step.now; settling = settling } ∷ []) self.new) }
         ensures run { OnOk result (IsRun self.new.workload self.new.events) }
         ensures workload { self.new.workload ≡ self.old.workload }

@@ -1,6 +1,6 @@
--- Every calm script comes to its end, by the ends of both loops.
+-- Every script comes to its end, since settling does.
 use Rattle.settling_laws.proofs.Scripts.{script_ends}
 use Rattle.settling_laws.proofs.laws.scripts_come_to_an_end.Goals as goal
 
 pub returns : goal.returns
-returns c = λ script fits good calm. script_ends script fits good calm
+returns c = λ script fits good. script_ends script fits good

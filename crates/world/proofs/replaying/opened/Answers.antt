@@ -1,12 +1,9 @@
 use Rattle.std.proofs.Common.{arith}
-use Rattle.world.proofs.ReplayLemmas.{one_more, step_built, step_fits, steps_done}
+use Rattle.world.proofs.ReplayLemmas.{one_more, step_fits, steps_done}
 use Rattle.world.proofs.replaying.opened.Goals as goal
 
-pub turn-requires-clause-step : goal.turn-requires-clause-step
-turn-requires-clause-step c = step_fits _ _ _ _ _ _ c.as_slice-step-items.ensures c.loop-step.invariant c.requires.steps.0 c.loop-step-test.true c.step-item.is
-
-pub turn-requires-clause-built : goal.turn-requires-clause-built
-turn-requires-clause-built c = step_built _ _ _ _ c.as_slice-step-items.ensures c.requires.steps.1 c.loop-step-test.true c.step-item.is
+pub turn-requires : goal.turn-requires
+turn-requires c = step_fits _ _ _ _ _ _ c.as_slice-step-items.ensures c.loop-step.invariant c.requires.steps c.loop-step-test.true c.step-item.is
 
 pub loop-step-preserved : goal.loop-step-preserved
 loop-step-preserved c = one_more _ _ _ _ _ c.loop-step-test.true c.step-item.is (c.in_ok-turn.ensures.taken _ _ c.loop-step.invariant)

@@ -18,7 +18,7 @@ loop-self-preserved c =
 
 pub loop-self-smaller : goal.loop-self-smaller
 loop-self-smaller c =
-    pass_nearer is_unfinished telling_rounds _ _ _ _ (tells_end _ c.telling_ends.ensures c.requires.taken c.requires.answered) c.loop-self.invariant (λ script ts h. sym (c.is_unfinished.ensures _ (known_of script ts _ (subst (HasTaken script ts) (sym c.self.view_is) h))) ∙ c.loop-self-test.true) c.in_ok-play_and_tell.ensures
+    pass_nearer is_unfinished telling_rounds _ _ _ _ (tells_end _ c.telling_ends.ensures c.requires.taken c.requires.calm c.requires.answered) c.loop-self.invariant (λ script ts h. sym (c.is_unfinished.ensures _ (known_of script ts _ (subst (HasTaken script ts) (sym c.self.view_is) h))) ∙ c.loop-self-test.true) c.in_ok-play_and_tell.ensures
 
 pub returns : goal.returns
 returns c =

@@ -1,0 +1,7 @@
+use Rattle.std.proofs.Common.{◌≡◌, ◌++◌}
+use Rattle.abstract_log.specs.declared.script.Step.TheVariants.{Mark}
+use Rattle.stage_world.specs.Opening.{numbered}
+use Rattle.world.proofs.rounds.add_marks.Given as goal
+
+abbrev pub invariant-loop-_turn : goal.invariant-loop-_turn
+invariant-loop-_turn l = l.steps ≡ l.initial.steps ++ numbered (λ _. Mark l.d) l._turn
