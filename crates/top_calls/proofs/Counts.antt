@@ -11,7 +11,7 @@ use Rattle.command_line.specs.declared.task.Task.TheVariants.{Replay, Generate}
 use Rattle.top_calls.specs.declared.done.Done.{Done}
 use Rattle.top_calls.specs.declared.done.Refusal.{Refusal}
 use Rattle.top_calls.specs.declared.done.Refusal.TheVariants.{Words, Script as BadScript, TooLong, ReadFault, NoMemory}
-use Rattle.top_calls.specs.Ending.{EndsGenerated, EndsReplay, EndsReport, EndsTask, EndsUnasked, IsRefused, IsRefusedFor, IsReported, IsReportStatus, StandsStill, status_of}
+use Rattle.top_calls.specs.Ending.{EndsGenerated, EndsReplay, EndsReport, EndsTask, IsRefused, IsRefusedFor, IsReported, IsReportStatus, StandsStill, status_of}
 
 -- A count that stands still shows no fault.
 
