@@ -37,8 +37,8 @@ pub record AreTwo (dcs d e : ℕ) : Type 0 where
   pub second : e < dcs
   pub apart : d ≢ e
 
--- A step that stages may take: its session and its datacentres are there, a link is between two, and a new maintainer's
--- first position is a number.
+-- A step that stages may take: its session and its datacentres are there, a link is between two, a new filter serves
+-- another host, and a new maintainer's first position is a number.
 abbrev pub IsStep : Workload → Step → Type 0
 IsStep load (Client s) = s < length load.sessions
 IsStep load (Send d k e) = AreTwo load.dcs d e
@@ -89,28 +89,3 @@ HasRanges (AddReceiver d) = ⊤
 -- a step that a script may have
 abbrev pub FitsStep : Workload → Step → Type 0
 FitsStep load step = IsStep load step × HasRanges step
-
--- the steps that are built so far: all but announcements and those that add members
-abbrev pub IsBuiltStep : Step → Type 0
-IsBuiltStep (Client s) = ⊤
-IsBuiltStep (Flush d b) = ⊤
-IsBuiltStep (Pass d f q) = ⊤
-IsBuiltStep (Stamp d q) = ⊤
-IsBuiltStep (Token d) = ⊤
-IsBuiltStep (Place d q m) = ⊤
-IsBuiltStep (Gossip d m k) = ⊤
-IsBuiltStep (Post d m i) = ⊤
-IsBuiltStep (Learn d) = ⊤
-IsBuiltStep (Send d k e) = ⊤
-IsBuiltStep (Deliver d e k r) = ⊤
-IsBuiltStep (Lose d e k) = ⊤
-IsBuiltStep (Copy d e k) = ⊤
-IsBuiltStep (Floor d p) = ⊤
-IsBuiltStep (Collect d m) = ⊤
-IsBuiltStep (Announce d h t) = ⊥
-IsBuiltStep (Mark d) = ⊥
-IsBuiltStep (AddMaintainer d p) = ⊥
-IsBuiltStep (AddBatcher d) = ⊥
-IsBuiltStep (AddQueue d) = ⊥
-IsBuiltStep (AddSender d) = ⊥
-IsBuiltStep (AddReceiver d) = ⊥

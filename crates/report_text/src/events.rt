@@ -2,6 +2,7 @@
 
 ghost use Rattle.std.specs.Prelude.{◌≡◌, ◌∷◌, [], ◌++◌, codes, OnOk};
 ghost use Rattle.std.specs.List.{flat_map};
+ghost use Rattle.abstract_log.specs.declared.event.Event.TheVariants.{Append, Collect, Learn, Submit};
 ghost use Rattle.std.specs.Fmt.{decimal};
 ghost use Rattle.report_text.specs.Lines.{line_text, lines_text, spaced, words_text};
 ghost use Rattle.report_text.specs.Values.{letter, name_word, names_words, table_word};
@@ -13,7 +14,7 @@ use crate::values::{
     put_places, table_after,
 };
 use abstract_log::{Answer, Command, Event, Found, ReadAnswer, SessionPlan};
-use causal_deps::{BoxedTable, Place, Table};
+use causal_deps::{BoxedCounts, BoxedTable, Place, Table};
 use cz_base::{Body, DcId, Lid, Name, NoMemory, Seq, Toid};
 
 /// The line of each session, and those of its commands. It fails only where memory runs out.
@@ -111,20 +112,14 @@ fn put_event(text: &mut Text, event: &Event) -> Result<(), NoMemory>
     ensures { OnOk result (text.new ≡ text.old ++ words_text (event_words event.now)) }
 {
     match event {
-        Event::Submit { session, index } => {
-            text.put(b"submit")?;
-            put_index(text, *session, *index)
-        }
+        Event::Submit { session, index } => put_begun(text, *session, *index),
         Event::Append {
             dc,
             session,
             index,
             lid,
             toid,
-        } => {
-            put_added(text, b"append", *dc, *lid, *dc, *toid)?;
-            put_index(text, *session, *index)
-        }
+        } => put_appended(text, *dc, *session, *index, *lid, *toid),
         Event::Receive {
             dc,
             from,
@@ -137,30 +132,75 @@ fn put_event(text: &mut Text, event: &Event) -> Result<(), NoMemory>
             host,
             toid,
         } => put_added(text, b"add", *dc, *lid, *host, *toid),
-        Event::Learn { dc, row } => {
-            text.put(b"learn")?;
-            letter_word(text, *dc)?;
-            counts_after(text, &row.get())
-        }
+        Event::Learn { dc, row } => put_learnt(text, *dc, row),
         Event::Reply {
             dc,
             session,
             index,
             at,
             answer,
-        } => {
-            text.put(b"reply")?;
-            letter_word(text, *dc)?;
-            put_index(text, *session, *index)?;
-            text.number(*at)?;
-            put_answer(text, answer.get())
-        }
-        Event::Collect { dc, lid } => {
-            text.put(b"collect")?;
-            letter_word(text, *dc)?;
-            text.number(*lid)
-        }
+        } => put_replied(text, *dc, *session, *index, *at, answer.get()),
+        Event::Collect { dc, lid } => put_collected(text, *dc, *lid),
     }
+}
+
+// A session began a command.
+fn put_begun(text: &mut Text, session: u32, index: u32) -> Result<(), NoMemory>
+    ensures { OnOk result (text.new ≡ text.old ++ words_text (event_words (Submit session index))) }
+{
+    text.put(b"submit")?;
+    put_index(text, session, index)
+}
+
+// A command's record came into the log of its datacentre.
+fn put_appended(
+    text: &mut Text,
+    dc: DcId,
+    session: u32,
+    index: u32,
+    lid: Lid,
+    toid: Toid,
+) -> Result<(), NoMemory>
+    ensures { OnOk result (text.new ≡ text.old ++ words_text (event_words (Append dc session index lid toid))) }
+{
+    put_added(text, b"append", dc, lid, dc, toid)?;
+    put_index(text, session, index)
+}
+
+// A datacentre learnt what its log has.
+fn put_learnt(text: &mut Text, dc: DcId, row: &BoxedCounts) -> Result<(), NoMemory>
+    ensures { OnOk result (text.new ≡ text.old ++ words_text (event_words (Learn dc row.now))) }
+{
+    text.put(b"learn")?;
+    letter_word(text, dc)?;
+    counts_after(text, &row.get())
+}
+
+// A command was answered at a position.
+fn put_replied(
+    text: &mut Text,
+    dc: DcId,
+    session: u32,
+    index: u32,
+    at: Lid,
+    answer: &Answer,
+) -> Result<(), NoMemory>
+    ensures { OnOk result (text.new ≡ text.old ++ words_text (codes "reply" ∷ letter dc ∷ (index_words session index ++ decimal at ∷ answer_words answer.now))) }
+{
+    text.put(b"reply")?;
+    letter_word(text, dc)?;
+    put_index(text, session, index)?;
+    text.number(at)?;
+    put_answer(text, answer)
+}
+
+// A record was collected at a datacentre.
+fn put_collected(text: &mut Text, dc: DcId, lid: Lid) -> Result<(), NoMemory>
+    ensures { OnOk result (text.new ≡ text.old ++ words_text (event_words (Collect dc lid))) }
+{
+    text.put(b"collect")?;
+    letter_word(text, dc)?;
+    text.number(lid)
 }
 
 // A record that came into the log of a datacentre.

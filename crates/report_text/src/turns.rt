@@ -1,7 +1,7 @@
 //! The lines of stage turns.
 
 ghost use Rattle.std.specs.Prelude.{◌≡◌, ◌∷◌, [], ◌++◌, OnOk};
-ghost use Rattle.abstract_log.specs.declared.script.Outcome.TheVariants.{Behind, Below, EpochAdded, Key, LateAt, Unacknowledged, Waiting};
+ghost use Rattle.abstract_log.specs.declared.script.Outcome.TheVariants.{Behind, Below, EpochAdded, Key, LateAt, Sent, Stamped, Unacknowledged, Waiting};
 ghost use Rattle.report_text.specs.Lines.{line_text, lines_text, spaced, with_space};
 ghost use Rattle.report_text.specs.Turns.{flush_words, flushes_words, item_word, link_words, outcome_words, stage_lines, stage_words, step_arguments, step_keyword, way_word};
 ghost use Rattle.std.specs.List.{flat_map};
@@ -13,7 +13,8 @@ use crate::values::{
     counts_after, letter_word, put_draft, put_lids, put_name, put_names, put_places,
 };
 use abstract_log::{FlushItem, ItemName, Outcome, StageLine, StageLog, Step, Way};
-use cz_base::{DcId, Lid, NoMemory, Seq};
+use causal_deps::Place;
+use cz_base::{DcId, Lid, NoMemory, Seq, Toid};
 
 /// A line for each turn of settling, or for each of the script's steps, as is asked. It fails only where memory runs
 /// out.
@@ -173,19 +174,13 @@ fn put_outcome(text: &mut Text, outcome: &Outcome) -> Result<(), NoMemory>
         Outcome::Flushed { items } => put_flushed(text, items),
         Outcome::PassedOn { count } => text.number(*count),
         Outcome::NoToken => text.word(b"no token"),
-        Outcome::Stamped { places, deferred } => {
-            put_places(text, places)?;
-            text.labelled(b"deferred", *deferred)
-        }
+        Outcome::Stamped { places, deferred } => put_stamped(text, places, *deferred),
         Outcome::At { queue } => text.labelled(b"at", u64::from(*queue)),
         Outcome::Placed { lids } => put_lids(text, lids),
         Outcome::Head { at } => text.labelled(b"head", *at),
         Outcome::Covered { at } => text.labelled(b"covered", *at),
         Outcome::Learnt { row } => counts_after(text, &row.get()),
-        Outcome::Sent { names, link, lost } => {
-            put_names(text, names)?;
-            put_link(text, *link, *lost)
-        }
+        Outcome::Sent { names, link, lost } => put_sent(text, names, *link, *lost),
         Outcome::NoRecords => text.word(b"no records"),
         Outcome::Received { names } => put_names(text, names),
         Outcome::Lost => text.word(b"lost"),
@@ -246,6 +241,27 @@ fn put_key(text: &mut Text, k: u32, done: u32, of: u32, at: Lid) -> Result<(), N
     text.number(u64::from(done))?;
     text.labelled(b"of", u64::from(of))?;
     text.labelled(b"at", at)
+}
+
+// The places of what was stamped, and how many items wait on.
+fn put_stamped(text: &mut Text, places: &Seq<Place>, deferred: u64) -> Result<(), NoMemory>
+    ensures { OnOk result (text.new ≡ text.old ++ spaced (outcome_words (Stamped places.now deferred))) }
+{
+    put_places(text, places)?;
+    text.labelled(b"deferred", deferred)
+}
+
+// The names of what was sent, and the packets of the link.
+fn put_sent(
+    text: &mut Text,
+    names: &Seq<(DcId, Toid)>,
+    link: u32,
+    lost: bool,
+) -> Result<(), NoMemory>
+    ensures { OnOk result (text.new ≡ text.old ++ spaced (outcome_words (Sent names.now link lost))) }
+{
+    put_names(text, names)?;
+    put_link(text, link, lost)
 }
 
 // A filter has passed a later record.

@@ -9,12 +9,12 @@ use Rattle.abstract_log.specs.declared.script.Sizes.{Sizes}
 use Rattle.abstract_log.specs.declared.script.Step.{Step}
 use Rattle.abstract_log.specs.Commands.{no_plan}
 use Rattle.abstract_log.specs.Fits.{FitsPlan, FitsScript, FitsSizes}
-use Rattle.abstract_log.specs.Turns.{FitsStep, IsBuiltStep}
+use Rattle.abstract_log.specs.Turns.{FitsStep}
 use Rattle.script_generator.specs.Draws.{many, seeded}
 use Rattle.script_generator.specs.Generated.{plan, step, sizes, script, generated}
 use Rattle.script_generator.proofs.DrawLemmas.{length-many, All-many}
 use Rattle.script_generator.proofs.CommandLemmas.{IsPlan, plan_fits, commands_in_all}
-use Rattle.script_generator.proofs.StepLemmas.{IsTurn, step_fits}
+use Rattle.script_generator.proofs.StepLemmas.{step_fits}
 
 pub is_generated : (seed : ℕ) (start middle end : Lcg) (plans : List SessionPlan) (turns : List Step) (all : List Sizes) → start ≡ seeded seed → (plans, middle) ≡ many plan 12 start
     → (turns, end) ≡ many (λ _. step) 20000 middle → all ≡ sizes ∷ sizes ∷ sizes ∷ []
@@ -42,7 +42,7 @@ pub record AreMade (plans : List SessionPlan) (turns : List Step) : Type 0 where
   pub sessions : length plans ≡ 12
   pub each : All IsPlan plans
   pub count : length turns ≡ 20000
-  pub every : All (IsTurn (record { dcs = 3; sessions = plans })) turns
+  pub every : All (FitsStep (record { dcs = 3; sessions = plans })) turns
 
 made_fit : (plans : List SessionPlan) (turns : List Step) → AreMade plans turns
     → FitsScript (record { workload = record { dcs = 3; sessions = plans }; round = 4; sizes = sizes ∷ sizes ∷ sizes ∷ []; steps = turns })
@@ -71,22 +71,17 @@ all_made g h =
       sessions = sessions;
       each = All-many IsPlan plan 12 (λ s at below. plan_fits s at below) g;
       count = length-many (λ _. step) 20000 h;
-      every = All-many (IsTurn load) (λ _. step) 20000 (λ n at below. step_fits load at (record { dcs = refl; sessions = sessions })) h;
+      every = All-many (FitsStep load) (λ _. step) 20000 (λ n at below. step_fits load at (record { dcs = refl; sessions = sessions })) h;
     }
 
--- the ranges of scripts, of their steps, and of what is built
+-- the ranges of scripts and of their steps
 pub record IsGood (script : Script) : Type 0 where
   pub fits : FitsScript script
   pub steps : All (FitsStep script.workload) script.steps
-  pub turns : All IsBuiltStep script.steps
 
 pub good : (plans : List SessionPlan) (turns : List Step) → AreMade plans turns
     → IsGood (record { workload = record { dcs = 3; sessions = plans }; round = 4; sizes = sizes ∷ sizes ∷ sizes ∷ []; steps = turns })
-good plans turns made = let load : Workload = record { dcs = 3; sessions = plans } in record {
-  fits = made_fit plans turns made;
-  steps = All-weaker (IsTurn load) (FitsStep load) (λ t is. is.fits) turns made.every;
-  turns = All-weaker (IsTurn load) IsBuiltStep (λ t is. is.built) turns made.every;
-}
+good plans turns made = record { fits = made_fit plans turns made; steps = made.every }
 
 pub generated_good : (seed : ℕ) → IsGood (generated seed)
 unfolding generated script

@@ -5,7 +5,7 @@
 //! commands and the table of steps.
 //!
 //! **Theorem.** The contract of `generate`: the script is the one that the two tables give with the draws of the seed
-//! (`script`), and it keeps the ranges of scripts, as one that was read does (`fits`, `steps`, `built`). So whatever is
+//! (`script`), and it keeps the ranges of scripts, as one that was read does (`fits`, `steps`). So whatever is
 //! proved of scripts holds of it.
 //!
 //! **Decided.** The draws are words of a PCG generator modulo the limit, from one stream for all seeds: the slight

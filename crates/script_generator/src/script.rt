@@ -2,7 +2,7 @@
 
 ghost use Rattle.std.specs.Prelude.{◌≡◌, All, IfOk};
 ghost use Rattle.abstract_log.specs.Fits.{FitsScript};
-ghost use Rattle.abstract_log.specs.Turns.{FitsStep, IsBuiltStep};
+ghost use Rattle.abstract_log.specs.Turns.{FitsStep};
 ghost use Rattle.script_generator.specs.Draws.{many};
 ghost use Rattle.script_generator.specs.Generated.{generated, plan, step};
 
@@ -25,9 +25,6 @@ pub fn generate(alloc: Global, seed: u64) -> Result<Script, NoMemory>
     // Each step is one that a script may have: its session and datacentres are there, a link is
     // between two, and its numbers are in their ranges.
     ensures steps { IfOk result (λ script. All (FitsStep script.workload) script.steps) }
-
-    // It has no steps that add members.
-    ensures built { IfOk result (λ script. All IsBuiltStep script.steps) }
 {
     let mut draws = Draws::new(seed);
     let sessions = sessions(alloc, &mut draws)?;

@@ -4,27 +4,26 @@
 use Rattle.std.proofs.Common.{◌≡◌, ℕ, List, ◌∷◌, length, refl, ap, ◌∙◌, Bool, true, false, cond, not, ◌||◌}
 use Rattle.std.specs.Prelude.{nat_lt, Err, Result, Option, Some, codes}
 use Rattle.script_text.specs.declared.fault.Cause.{Cause}
-use Rattle.script_text.specs.declared.fault.Cause.TheVariants.{OutOfPlace, NotBuilt, WrongWords}
+use Rattle.script_text.specs.declared.fault.Cause.TheVariants.{OutOfPlace, WrongWords}
 use Rattle.script_text.specs.declared.keyword.Keyword.{Keyword}
 use Rattle.script_text.specs.declared.keyword.Keyword.TheVariants.{Chariots, Datacentres, Round, Stages, Session, Command as CommandLine, Steps, Turn, End}
 use Rattle.script_text.specs.declared.keyword.CommandWord.TheVariants.{Append, Put, Get, Tx, Read, Last}
 use Rattle.script_text.specs.declared.keyword.TurnWord.{TurnWord}
 use Rattle.script_text.specs.declared.progress.Progress.{Progress}
-use Rattle.script_text.specs.Keywords.{text_of, turn_text, keyword_of, stands, is_built, least_words, most_words, command_text}
+use Rattle.script_text.specs.Keywords.{text_of, turn_text, keyword_of, stands, least_words, most_words, command_text}
 use Rattle.script_text.specs.Meaning.{meaning, keyword_after, words_after}
 use Rattle.script_text.specs.declared.keyword.CommandWord.{CommandWord}
 use Rattle.std.proofs.lemmas.Bool.{cond-false}
 use Rattle.script_text.specs.declared.keyword.TurnWord.TheVariants as turn
 
 -- a line whose first word is a keyword that may stand there, with as many words as it has
-pub word_reads : (said : Progress) (first : List ℕ) (more : List (List ℕ)) (k : Keyword) → keyword_of first ≡ Some k → stands k said.section ≡ true → is_built k ≡ true
+pub word_reads : (said : Progress) (first : List ℕ) (more : List (List ℕ)) (k : Keyword) → keyword_of first ≡ Some k → stands k said.section ≡ true
     → (nat_lt (length more) (least_words k) || nat_lt (most_words k) (length more)) ≡ false → words_after said (first ∷ more) ≡ meaning said k more
 unfolding words_after
-word_reads said first more k spelled place built count =
+word_reads said first more k spelled place count =
     let counted : Result Progress Cause = cond (nat_lt (length more) (least_words k) || nat_lt (most_words k) (length more)) (Err WrongWords) (meaning said k more) in
     ap (λ (o : Option Keyword). keyword_after said o more) spelled
-    ∙ cond-false (not (stands k said.section)) (Err OutOfPlace) (cond (not (is_built k)) (Err NotBuilt) counted) (ap (λ (t : Bool). not t) place)
-    ∙ cond-false (not (is_built k)) (Err NotBuilt) counted (ap (λ (t : Bool). not t) built)
+    ∙ cond-false (not (stands k said.section)) (Err OutOfPlace) counted (ap (λ (t : Bool). not t) place)
     ∙ cond-false (nat_lt (length more) (least_words k) || nat_lt (most_words k) (length more)) (Err WrongWords) (meaning said k more) count
 
 pub chariots_word : keyword_of (codes "chariots") ≡ Some Chariots

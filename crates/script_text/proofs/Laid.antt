@@ -26,10 +26,11 @@ use Rattle.script_text.specs.declared.progress.Progress.{Progress}
 use Rattle.script_text.specs.declared.progress.Stages.{Stages as StagesOf}
 use Rattle.script_text.specs.Words.{words, is_line_byte, is_empty_word}
 use Rattle.script_text.specs.Reading.{number_at, datacentre_at, body_at, name_at, names_in, greatest_number}
-use Rattle.script_text.specs.Keywords.{text_of, turn_text, keyword_of, stands, is_built, turn_arguments, least_words, most_words, is_ended}
+use Rattle.script_text.specs.Keywords.{text_of, turn_text, keyword_of, stands, turn_arguments, least_words, most_words, is_ended}
 use Rattle.script_text.specs.Meaning.{start, chariots_line, datacentres_line, round_line, sizes_at, stages_line, session_line, onto_last, with_command, append_line, put_line, get_line, tx_line, read_line, last_line, turn_line, command_meaning, meaning, keyword_after, words_after, is_passed_over, line_after, is_given, script_said, told, next_number, script_from, script_of}
+use Rattle.script_text.specs.Members.{FitsMembers}
 use Rattle.script_text.specs.Spelled.{letter, command_words, stages_words, first_words, datacentres_words, round_words, before_steps, turn_words, steps_words, end_words, said_words, Spells, IsWritten}
-use Rattle.abstract_log.specs.Turns.{FitsStep, IsBuiltStep}
+use Rattle.abstract_log.specs.Turns.{FitsStep}
 use Rattle.abstract_log.specs.Fits.{FitsScript}
 use Rattle.std.proofs.lemmas.Bool.{or_parts, not-false}
 use Rattle.cz_base.specs.declared.limits.TheConstants.{DATACENTRES, MEMBERS, SESSIONS, COMMANDS, ROUND, LAST_RECORDS}
@@ -38,7 +39,7 @@ use Rattle.script_text.specs.declared.section.Section.TheVariants as section
 use Rattle.script_text.proofs.Going.{okay, okay-same, bind_ok, guard_ok, pass_ok, told_ok}
 use Rattle.script_text.proofs.SoFar.{keyword_text, so_far_at, laid_at, Lays, empty-before, stages-before, sessions-before, commands-before, either-before, IsLine}
 use Rattle.script_text.proofs.Sections.{at-start, at-datacentres, at-round, at-stages, at-sessions, at-either, at-steps, at-ended, rank-upto, rank-ended}
-use Rattle.script_text.proofs.Sound.{IsSound, start-sound, line-sound, said-fits}
+use Rattle.script_text.proofs.Sound.{IsSound, start-sound, line-sound, said-fits, said-members}
 use Rattle.script_text.proofs.Spelling.{number_spells, datacentre_spells, body_spells, name_spells, names_spell, one_number}
 use Rattle.script_text.proofs.TurnLemmas.{and_step, turn_takes}
 
@@ -317,8 +318,7 @@ keyword-lays : (said after : Progress) (first : List ℕ) (keyword : Option Keyw
 keyword-lays said after first None left spelled laid sound same = cc
 keyword-lays said after first (Some keyword) left spelled laid sound same =
     let place = guard_ok (not (stands keyword said.section)) _ _ after same in
-    let built = guard_ok (not (is_built keyword)) _ _ after place.1 in
-    let count = guard_ok (nat_lt (length left) (least_words keyword) || nat_lt (most_words keyword) (length left)) _ _ after built.1 in
+    let count = guard_ok (nat_lt (length left) (least_words keyword) || nat_lt (most_words keyword) (length left)) _ _ after place.1 in
     let most = or_parts (nat_lt (length left) (least_words keyword)) (nat_lt (most_words keyword) (length left)) count.0 in
     let few : length left ≤ most_words keyword = grind (arith, nat_tests, most.1) in
     subst (λ (word : List ℕ). Lays said after (word ∷ left)) (sym (keyword_text first keyword spelled))
@@ -411,7 +411,7 @@ script_of-written lines script same =
       once = ends.sound.once;
       fits = said-fits ends.at_end ends.sound (omega (arith, late));
       steps = ends.sound.steps;
-      turns = ends.sound.turns;
+      members = said-members ends.at_end ends.sound;
     } in
     subst (λ (s : Script). IsWritten s lines) ends.is written
 
@@ -435,10 +435,6 @@ pub all-steps : (lines : List (List ℕ)) (result : Result Script ScriptFault) �
 all-steps lines (Ok script) same = (script_of-written lines script same).steps
 all-steps lines (Err fault) same = tt
 
--- its steps are all read yet
-abbrev StepsBuilt : Script → Type 0
-StepsBuilt script = All IsBuiltStep script.steps
-
-pub all-built : (lines : List (List ℕ)) (result : Result Script ScriptFault) → IfOk result (λ script. script_of lines ≡ Ok script) → IfOk result StepsBuilt
-all-built lines (Ok script) same = (script_of-written lines script same).turns
-all-built lines (Err fault) same = tt
+pub all-members : (lines : List (List ℕ)) (result : Result Script ScriptFault) → IfOk result (λ script. script_of lines ≡ Ok script) → IfOk result FitsMembers
+all-members lines (Ok script) same = (script_of-written lines script same).members
+all-members lines (Err fault) same = tt

@@ -59,7 +59,7 @@ unfolding last_line
 last_line-read said left tag n more rest named counted = rw (named, counted) refl
 
 pub turn_line-read : (said : Progress) (word : TurnWord) (left : List (List ℕ)) (sessions : ℕ) (kinds : List Argument) (given : Arguments) (step : Step) → sessions ≡ length said.sessions → kinds ≡ turn_arguments word
-    → arguments_at said.dcs sessions no_arguments kinds left ≡ Ok given → step_said word given ≡ Ok step → turn_line said word left ≡ with_step said step
+    → arguments_at said.dcs sessions no_arguments kinds left ≡ Ok given → step ≡ step_said word given → turn_line said word left ≡ with_step said step
 unfolding turn_line
 turn_line-read said word left sessions kinds given step many table read says =
     let read' : arguments_at said.dcs (length said.sessions) no_arguments (turn_arguments word) left ≡ Ok given

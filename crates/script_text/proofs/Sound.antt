@@ -2,14 +2,17 @@
 -- By cases on the line; a part that a section cannot have yet is told by the rank of the section.
 -- The theorems are `line-sound`, one line, and `said-fits`, all of them.
 use Rattle.std.proofs.Common.{◌≡◌, ◌<◌, ◌≤◌, ◌+◌, ℕ, zero, suc, List, [], ◌∷◌, ◌++◌, length, length-append, refl, ap, sym, subst, ◌∙◌, arith, Bool, true, false, cond, not, ◌||◌, nat_eq, inl, inr, All, lit<}
-use Rattle.std.specs.Prelude.{nat_le, nat_lt, Ok, Option, Some, None, IfSome}
+use Rattle.std.specs.Prelude.{nat_le, nat_lt, Ok, Option, Some, None, IfSome, get_or}
 use Rattle.std.specs.List.{list_all, list_any, find}
 use Rattle.std.proofs.lemmas.Bool.Decides.{nat_tests}
+use Rattle.std.proofs.Math.ListN.{get_or-append}
+use Rattle.std.proofs.lemmas.List.{get_or_push}
 use Rattle.std.proofs.lemmas.List.Elements.{All-nil, All-cons, All-push, All-head, All-tail, All-get_or}
 use Rattle.cz_base.specs.Text.{IsName}
 use Rattle.abstract_log.specs.declared.command.Command.{Command}
 use Rattle.abstract_log.specs.declared.command.SessionPlan.{SessionPlan}
 use Rattle.abstract_log.specs.declared.command.Workload.{Workload}
+use Rattle.abstract_log.specs.declared.script.Sizes.{Sizes}
 use Rattle.abstract_log.specs.declared.script.Step.{Step}
 use Rattle.abstract_log.specs.Commands.{no_plan}
 use Rattle.script_text.specs.declared.keyword.Keyword.{Keyword}
@@ -22,17 +25,21 @@ use Rattle.script_text.specs.declared.progress.Progress.{Progress}
 use Rattle.script_text.specs.declared.progress.Stages.{Stages as StagesOf}
 use Rattle.script_text.specs.Words.{words, is_line_byte, is_empty_word}
 use Rattle.script_text.specs.Reading.{number_at, datacentre_at, body_at, name_at, names_in, greatest_number}
-use Rattle.script_text.specs.Keywords.{keyword_of, stands, is_built, turn_arguments, least_words, most_words, is_ended}
+use Rattle.script_text.specs.Keywords.{keyword_of, stands, turn_arguments, least_words, most_words, is_ended}
+use Rattle.script_text.specs.declared.members.Stage.{Stage as StageOf}
+use Rattle.script_text.specs.declared.members.Stage.TheVariants.{Batchers, Filters, Queues, Maintainers, Senders, Receivers}
+use Rattle.script_text.specs.Members.{additions, members, one_of_each, FitsMembers}
 use Rattle.script_text.specs.Meaning.{start, chariots_line, datacentres_line, round_line, sizes_at, stages_line, session_line, onto_last, with_command, append_line, put_line, get_line, tx_line, read_line, last_line, turn_line, command_meaning, meaning, keyword_after, words_after, is_passed_over, line_after, is_given, sizes_found, sizes_given, sizes_upto, script_said}
 use Rattle.abstract_log.specs.Fits.{IsSize, FitsSizes, FitsCommand, FitsPlan, commands_of, FitsScript}
 use Rattle.script_text.specs.Spelled.{FitsStages, AreGivenOnce}
-use Rattle.abstract_log.specs.Turns.{FitsStep, IsBuiltStep}
+use Rattle.abstract_log.specs.Turns.{FitsStep}
 use Rattle.std.proofs.lemmas.Bool.{or_parts, or_from, not-false}
-use Rattle.cz_base.specs.declared.limits.TheConstants.{DATACENTRES, SESSIONS, COMMANDS, STEPS, TAGS, KEYS, ROUND, LAST_RECORDS}
+use Rattle.cz_base.specs.declared.limits.TheConstants.{DATACENTRES, SESSIONS, COMMANDS, STEPS, MEMBERS, TAGS, KEYS, ROUND, LAST_RECORDS}
 use Rattle.abstract_log.specs.declared.command.Command.TheVariants as command
 use Rattle.script_text.specs.declared.section.Section.TheVariants as section
 use Rattle.script_text.proofs.Going.{okay, okay-same, bind_ok, guard_ok, chosen}
 use Rattle.script_text.proofs.Kept.{body_takes, names_take, sizes_take, name_takes}
+use Rattle.script_text.proofs.MemberLemmas.{AreWithin, within_push}
 use Rattle.script_text.proofs.Sections.{at-start, at-datacentres, at-round, at-stages, at-sessions, at-steps, rank, rank-either, rank-upto}
 use Rattle.script_text.proofs.Spelling.{number_spells, datacentre_takes}
 use Rattle.script_text.proofs.TurnLemmas.{load_of, turn_takes}
@@ -50,8 +57,38 @@ pub record IsSound (said : Progress) : Type 0 where
   pub within : said.commands ≤ COMMANDS
   pub idle : rank said.section ≤ 4 → said.steps ≡ []
   pub steps : All (FitsStep (load_of said)) said.steps
-  pub turns : All IsBuiltStep said.steps
+  pub members : AreWithin said.stages said.steps
   pub short : length said.steps ≤ STEPS
+
+sizes_found-fits : (given : Option StagesOf) → IfSome given (λ g. FitsSizes g.sizes) → FitsSizes (sizes_found given)
+sizes_found-fits None fits = let size : IsSize 1 = (omega arith, omega arith) in record { batchers = size; filters = size; queues = size; maintainers = size; indexers = size; senders = size; receivers = size }
+sizes_found-fits (Some given) fits = fits
+
+find-fits : (test : StagesOf → Bool) (stages : List StagesOf) → All (λ (g : StagesOf). FitsSizes g.sizes) stages → IfSome (find test stages) (λ g. FitsSizes g.sizes)
+find-fits test [] all = tt
+find-fits test (given ∷ more) all =
+    elim (test given) as (λ v. IfSome (cond v (Some given) (find test more)) (λ g. FitsSizes g.sizes)) [
+      | true ↦ All-head (λ (g : StagesOf). FitsSizes g.sizes) given more all
+      | false ↦ find-fits test more (All-tail (λ (g : StagesOf). FitsSizes g.sizes) given more all)
+    ]
+
+-- the sizes of each datacentre, where those that are given fit
+sizes_given-fit : (stages : List StagesOf) (dc : ℕ) → All (λ (g : StagesOf). FitsSizes g.sizes) stages → FitsSizes (sizes_given stages dc)
+sizes_given-fit stages dc all = sizes_found-fits (find (λ given. nat_eq given.dc dc) stages) (find-fits (λ given. nat_eq given.dc dc) stages all)
+
+members_few : (stage : StageOf) (sizes : Sizes) → FitsSizes sizes → members stage sizes ≤ MEMBERS
+members_few Batchers sizes fits = fits.batchers.1
+members_few Filters sizes fits = fits.filters.1
+members_few Queues sizes fits = fits.queues.1
+members_few Maintainers sizes fits = fits.maintainers.1
+members_few Senders sizes fits = fits.senders.1
+members_few Receivers sizes fits = fits.receivers.1
+
+-- where no step has been said, the sizes alone count
+none_added : {dcs : ℕ} (stages : List StagesOf) (steps : List Step) → steps ≡ [] → All (FitsStages dcs) stages → AreWithin stages steps
+none_added stages steps none fits d stage =
+    let few = members_few stage (sizes_given stages d) (sizes_given-fit stages d (λ k g within. (fits k g within).sizes)) in
+    omega (arith, few, ap (λ (ts : List Step). additions d stage ts) none)
 
 pub start-sound : IsSound start
 start-sound = record {
@@ -67,7 +104,7 @@ start-sound = record {
   within = omega arith;
   idle = λ h. refl;
   steps = All-nil (FitsStep (load_of start));
-  turns = All-nil IsBuiltStep;
+  members = none_added [] [] refl (All-nil (FitsStages 0));
   short = omega arith;
 }
 
@@ -116,7 +153,7 @@ chariots-sound said after left here sound same =
       within = sound.within;
       idle = λ h. sound.idle (omega arith);
       steps = sound.steps;
-      turns = sound.turns;
+      members = sound.members;
       short = sound.short;
     })
 
@@ -139,7 +176,7 @@ datacentres-sound said after left here sound same =
       within = sound.within;
       idle = λ h. sound.idle (omega arith);
       steps = none_steps (load_of (record said { dcs = read.0.0; section = section.Round })) said.steps (sound.idle (omega arith));
-      turns = sound.turns;
+      members = sound.members;
       short = sound.short;
     })
 
@@ -162,7 +199,7 @@ round-sound said after left here sound same =
       within = sound.within;
       idle = λ h. sound.idle (omega arith);
       steps = sound.steps;
-      turns = sound.turns;
+      members = sound.members;
       short = sound.short;
     })
 
@@ -173,13 +210,14 @@ stages-sound said after left here sound same =
     let sizes = bind_ok (sizes_at dc.0.1) _ after dc.1.1 in
     let new = guard_ok (is_given said.stages dc.0.0) _ _ after sizes.1.1 in
     let given : StagesOf = record { dc = dc.0.0; sizes = sizes.0.0 } in
+    let fits : FitsStages said.dcs given = record { dc = datacentre_takes said.dcs left dc.0 dc.1.0; sizes = sizes_take dc.0.1 sizes.0 sizes.1.0 } in
     let is : record said { stages = said.stages ++ given ∷ [] } ≡ after = cc (new.1) in
     subst IsSound is (record {
       dcs = sound.dcs;
       round = sound.round;
       begun = sound.begun;
       bare = λ h. absurd (omega arith);
-      given = All-push (FitsStages said.dcs) said.stages given sound.given (record { dc = datacentre_takes said.dcs left dc.0 dc.1.0; sizes = sizes_take dc.0.1 sizes.0 sizes.1.0 });
+      given = All-push (FitsStages said.dcs) said.stages given sound.given fits;
       once = once-push said.stages given sound.once new.0;
       few = sound.few;
       plans = sound.plans;
@@ -187,7 +225,7 @@ stages-sound said after left here sound same =
       within = sound.within;
       idle = λ h. sound.idle (omega arith);
       steps = sound.steps;
-      turns = sound.turns;
+      members = none_added (said.stages ++ given ∷ []) said.steps (sound.idle (omega arith)) (All-push (FitsStages said.dcs) said.stages given sound.given fits);
       short = sound.short;
     })
 
@@ -217,7 +255,7 @@ session-sound said after left here early sound same =
       within = sound.within;
       idle = λ h. sound.idle early;
       steps = none_steps (load_of (record said { sessions = said.sessions ++ plan ∷ []; section = section.Sessions })) said.steps (sound.idle early);
-      turns = sound.turns;
+      members = sound.members;
       short = sound.short;
     })
 
@@ -262,7 +300,7 @@ command-sound said after c here fits sound same =
       within = omega (arith, fewer);
       idle = λ h. sound.idle (omega arith);
       steps = none_steps (load_of (record said { sessions = onto_last said.sessions c; commands = said.commands + 1 })) said.steps (sound.idle (omega arith));
-      turns = sound.turns;
+      members = sound.members;
       short = sound.short;
     })
 
@@ -337,7 +375,7 @@ section-sound said after next here later sound same =
       within = sound.within;
       idle = λ h. absurd (omega arith);
       steps = sound.steps;
-      turns = sound.turns;
+      members = sound.members;
       short = sound.short;
     })
 
@@ -357,7 +395,7 @@ turn-sound said after word left here few sound same =
       within = sound.within;
       idle = λ h. absurd (omega arith);
       steps = All-push (FitsStep (load_of said)) said.steps takes.step sound.steps takes.turn.fits;
-      turns = All-push IsBuiltStep said.steps takes.step sound.turns takes.turn.built;
+      members = within_push said.stages said.steps takes.step sound.members takes.spare;
       short = omega (arith, length-append said.steps (takes.step ∷ []), takes.room);
     })
 
@@ -380,8 +418,7 @@ keyword-sound : (said after : Progress) (keyword : Option Keyword) (left : List 
 keyword-sound said after None left sound same = cc
 keyword-sound said after (Some keyword) left sound same =
     let place = guard_ok (not (stands keyword said.section)) _ _ after same in
-    let built = guard_ok (not (is_built keyword)) _ _ after place.1 in
-    let count = guard_ok (nat_lt (length left) (least_words keyword) || nat_lt (most_words keyword) (length left)) _ _ after built.1 in
+    let count = guard_ok (nat_lt (length left) (least_words keyword) || nat_lt (most_words keyword) (length left)) _ _ after place.1 in
     let most = or_parts (nat_lt (length left) (least_words keyword)) (nat_lt (most_words keyword) (length left)) count.0 in
     let some : least_words keyword ≤ length left = grind (arith, nat_tests, most.0) in
     let few : length left ≤ most_words keyword = grind (arith, nat_tests, most.1) in
@@ -405,21 +442,9 @@ line-sound said after line sound same =
           words-sound said after (words line) sound going.1
     ]
 
-sizes_found-fits : (given : Option StagesOf) → IfSome given (λ g. FitsSizes g.sizes) → FitsSizes (sizes_found given)
-sizes_found-fits None fits = let size : IsSize 1 = (omega arith, omega arith) in record { batchers = size; filters = size; queues = size; maintainers = size; indexers = size; senders = size; receivers = size }
-sizes_found-fits (Some given) fits = fits
-
-find-fits : (test : StagesOf → Bool) (stages : List StagesOf) → All (λ (g : StagesOf). FitsSizes g.sizes) stages → IfSome (find test stages) (λ g. FitsSizes g.sizes)
-find-fits test [] all = tt
-find-fits test (given ∷ more) all =
-    elim (test given) as (λ v. IfSome (cond v (Some given) (find test more)) (λ g. FitsSizes g.sizes)) [
-      | true ↦ All-head (λ (g : StagesOf). FitsSizes g.sizes) given more all
-      | false ↦ find-fits test more (All-tail (λ (g : StagesOf). FitsSizes g.sizes) given more all)
-    ]
-
 sizes_upto-fits : (stages : List StagesOf) (dcs : ℕ) → All (λ (g : StagesOf). FitsSizes g.sizes) stages → All FitsSizes (sizes_upto stages dcs)
 sizes_upto-fits stages zero all = All-nil FitsSizes
-sizes_upto-fits stages (suc dc) all = All-push FitsSizes (sizes_upto stages dc) (sizes_given stages dc) (sizes_upto-fits stages dc all) (sizes_found-fits (find (λ given. nat_eq given.dc dc) stages) (find-fits (λ given. nat_eq given.dc dc) stages all))
+sizes_upto-fits stages (suc dc) all = All-push FitsSizes (sizes_upto stages dc) (sizes_given stages dc) (sizes_upto-fits stages dc all) (sizes_given-fit stages dc all)
 
 length-sizes_upto : (stages : List StagesOf) (dcs : ℕ) → length (sizes_upto stages dcs) ≡ dcs
 length-sizes_upto stages zero = refl
@@ -441,3 +466,22 @@ said-fits said sound here =
       sizes = sizes_upto-fits said.stages said.dcs (λ k d within. (sound.given k d within).sizes);
       steps = sound.short;
     }
+
+-- the sizes that the script has of a datacentre are those that its line gives
+pub get_or-sizes_upto : (stages : List StagesOf) (dcs d : ℕ) (other : Sizes) → d < dcs → get_or (sizes_upto stages dcs) d other ≡ sizes_given stages d
+get_or-sizes_upto stages zero d other within = absurd (omega (arith, within))
+get_or-sizes_upto stages (suc dc) d other within =
+    let many = length-sizes_upto stages dc in
+    elim (nat_lt d dc) as (λ v. (nat_lt d dc ≡ v) → get_or (sizes_upto stages (suc dc)) d other ≡ sizes_given stages d) [
+      | true ↦ λ before.
+          let below : d < dc = grind (arith, nat_tests, before) in
+          get_or-append (sizes_upto stages dc) (sizes_given stages dc ∷ []) other d (omega (arith, below, many)) ∙ get_or-sizes_upto stages dc d other below
+      | false ↦ λ last.
+          let here : d ≡ dc = grind (arith, nat_tests, last, within) in
+          get_or_push (sizes_upto stages dc) (sizes_given stages dc) other d (many ∙ sym here) ∙ ap (λ (k : ℕ). sizes_given stages k) (sym here)
+    ] refl
+
+-- no stage of it gets more members than it may have
+pub said-members : (said : Progress) → IsSound said → FitsMembers (script_said said)
+said-members said sound d stage there =
+    subst (λ (sizes : Sizes). members stage sizes + additions d stage said.steps ≤ MEMBERS) (sym (get_or-sizes_upto said.stages said.dcs d one_of_each there)) (sound.members d stage)

@@ -1,9 +1,10 @@
 -- The words of a step line, by the table of arguments: a line that is read writes the step that it says.
 -- By induction on the kinds of arguments that its word has, and by cases on the word.
 -- The theorem is `turn_takes`.
-use Rattle.std.proofs.Common.{◌≡◌, ◌<◌, ◌≤◌, ℕ, List, [], ◌∷◌, ◌++◌, length, refl, ap, sym, subst, ◌∙◌, arith, lit<}
+use Rattle.std.proofs.Common.{◌≡◌, ◌<◌, ◌≤◌, ℕ, List, [], ◌∷◌, ◌++◌, length, refl, ap, sym, subst, ◌∙◌, arith, false, ◌||◌, lit<}
 use Rattle.std.specs.Prelude.{◌≢◌, nat_le, Ok, codes}
 use Rattle.std.specs.Fmt.{decimal}
+use Rattle.std.proofs.lemmas.Bool.{or_parts}
 use Rattle.std.proofs.lemmas.Bool.Decides.{nat_tests}
 use Rattle.abstract_log.specs.declared.command.Workload.{Workload}
 use Rattle.abstract_log.specs.declared.script.Step.{Step}
@@ -16,13 +17,14 @@ use Rattle.script_text.specs.declared.progress.Progress.{Progress}
 use Rattle.script_text.specs.Keywords.{turn_text, turn_arguments}
 use Rattle.script_text.specs.Reading.{number_at, number_below_at, datacentre_at, other_datacentre_at, greatest_number}
 use Rattle.script_text.specs.Arguments.{no_arguments, argument_at, arguments_at, step_said}
-use Rattle.script_text.specs.Meaning.{with_step, turn_line}
+use Rattle.script_text.specs.Members.{added_by}
+use Rattle.script_text.specs.Meaning.{is_full, with_step, turn_line}
 use Rattle.script_text.specs.Spelled.{letter, turn_words}
-use Rattle.abstract_log.specs.Turns.{FitsStep, IsBuiltStep, IsMember, IsPacket, IsPosition}
+use Rattle.abstract_log.specs.Turns.{FitsStep, IsMember, IsPacket, IsPosition}
 use Rattle.std.proofs.lemmas.List.{nil_from_length}
 use Rattle.cz_base.specs.declared.limits.TheConstants.{MEMBERS, STEPS, PACKETS}
 use Rattle.abstract_log.specs.declared.script.Step.TheVariants as step
-use Rattle.script_text.proofs.Going.{okay, okay-same, bind_ok, guard_ok}
+use Rattle.script_text.proofs.Going.{okay-same, bind_ok, guard_ok}
 use Rattle.script_text.proofs.Spelling.{number_spells, datacentre_spells, datacentre_takes, below_spells, other_spells}
 
 -- how an argument is written
@@ -137,113 +139,143 @@ arguments_spell dcs sessions given (kind ∷ kinds) left after few same =
 pub record IsTurn (load : Workload) (word : TurnWord) (left : List (List ℕ)) (t : Step) : Type 0 where
   pub words : turn_text word ∷ left ≡ turn_words t
   pub fits : FitsStep load t
-  pub built : IsBuiltStep t
 
 turn_says : (load : Workload) (word : TurnWord) (left : List (List ℕ)) (given : Arguments) (t : Step) → Write load.dcs (length load.sessions) no_arguments (turn_arguments word) left given
-    → step_said word given ≡ okay t → IsTurn load word left t
+    → step_said word given ≡ t → IsTurn load word left t
 turn_says load Client left given t w same =
     let end = w.1.1.1.1 in
-    let said : okay (step.Client w.0) ≡ okay t = subst (λ (g : Arguments). step_said Client g ≡ okay t) (sym end.1) same in
+    let said : step.Client w.0 ≡ t = subst (λ (g : Arguments). step_said Client g ≡ t) (sym end.1) same in
     let words : left ≡ decimal w.0 ∷ [] = w.1.1.0 ∙ ap (λ (ws : List (List ℕ)). decimal w.0 ∷ ws) end.0 in
-    subst (λ (s : Step). IsTurn load Client left s) (okay-same (step.Client w.0) t said) (record { words = ap (λ (ws : List (List ℕ)). codes "client" ∷ ws) words; fits = (w.1.1.1.0, tt); built = tt })
+    subst (λ (s : Step). IsTurn load Client left s) said (record { words = ap (λ (ws : List (List ℕ)). codes "client" ∷ ws) words; fits = (w.1.1.1.0, tt) })
 turn_says load Flush left given t w same =
     let two = w.1.1.1.1 in
     let end = two.1.1.1.1 in
-    let said : okay (step.Flush w.0 two.0) ≡ okay t = subst (λ (g : Arguments). step_said Flush g ≡ okay t) (sym end.1) same in
+    let said : step.Flush w.0 two.0 ≡ t = subst (λ (g : Arguments). step_said Flush g ≡ t) (sym end.1) same in
     let words : left ≡ letter w.0 ∷ decimal two.0 ∷ [] = w.1.1.0 ∙ ap (λ (ws : List (List ℕ)). letter w.0 ∷ ws) (two.1.1.0 ∙ ap (λ (ws : List (List ℕ)). decimal two.0 ∷ ws) end.0) in
-    subst (λ (s : Step). IsTurn load Flush left s) (okay-same (step.Flush w.0 two.0) t said) (record { words = ap (λ (ws : List (List ℕ)). codes "flush" ∷ ws) words; fits = (w.1.1.1.0, two.1.1.1.0); built = tt })
+    subst (λ (s : Step). IsTurn load Flush left s) said (record { words = ap (λ (ws : List (List ℕ)). codes "flush" ∷ ws) words; fits = (w.1.1.1.0, two.1.1.1.0) })
 turn_says load Pass left given t w same =
     let two = w.1.1.1.1 in
     let three = two.1.1.1.1 in
     let end = three.1.1.1.1 in
-    let said : okay (step.Pass w.0 two.0 three.0) ≡ okay t = subst (λ (g : Arguments). step_said Pass g ≡ okay t) (sym end.1) same in
+    let said : step.Pass w.0 two.0 three.0 ≡ t = subst (λ (g : Arguments). step_said Pass g ≡ t) (sym end.1) same in
     let words : left ≡ letter w.0 ∷ decimal two.0 ∷ decimal three.0 ∷ [] = w.1.1.0 ∙ ap (λ (ws : List (List ℕ)). letter w.0 ∷ ws) (two.1.1.0 ∙ ap (λ (ws : List (List ℕ)). decimal two.0 ∷ ws) (three.1.1.0 ∙ ap (λ (ws : List (List ℕ)). decimal three.0 ∷ ws) end.0)) in
-    subst (λ (s : Step). IsTurn load Pass left s) (okay-same (step.Pass w.0 two.0 three.0) t said) (record { words = ap (λ (ws : List (List ℕ)). codes "pass" ∷ ws) words; fits = (w.1.1.1.0, (two.1.1.1.0, three.1.1.1.0)); built = tt })
+    subst (λ (s : Step). IsTurn load Pass left s) said (record { words = ap (λ (ws : List (List ℕ)). codes "pass" ∷ ws) words; fits = (w.1.1.1.0, (two.1.1.1.0, three.1.1.1.0)) })
 turn_says load Stamp left given t w same =
     let two = w.1.1.1.1 in
     let end = two.1.1.1.1 in
-    let said : okay (step.Stamp w.0 two.0) ≡ okay t = subst (λ (g : Arguments). step_said Stamp g ≡ okay t) (sym end.1) same in
+    let said : step.Stamp w.0 two.0 ≡ t = subst (λ (g : Arguments). step_said Stamp g ≡ t) (sym end.1) same in
     let words : left ≡ letter w.0 ∷ decimal two.0 ∷ [] = w.1.1.0 ∙ ap (λ (ws : List (List ℕ)). letter w.0 ∷ ws) (two.1.1.0 ∙ ap (λ (ws : List (List ℕ)). decimal two.0 ∷ ws) end.0) in
-    subst (λ (s : Step). IsTurn load Stamp left s) (okay-same (step.Stamp w.0 two.0) t said) (record { words = ap (λ (ws : List (List ℕ)). codes "stamp" ∷ ws) words; fits = (w.1.1.1.0, two.1.1.1.0); built = tt })
+    subst (λ (s : Step). IsTurn load Stamp left s) said (record { words = ap (λ (ws : List (List ℕ)). codes "stamp" ∷ ws) words; fits = (w.1.1.1.0, two.1.1.1.0) })
 turn_says load Token left given t w same =
     let end = w.1.1.1.1 in
-    let said : okay (step.Token w.0) ≡ okay t = subst (λ (g : Arguments). step_said Token g ≡ okay t) (sym end.1) same in
+    let said : step.Token w.0 ≡ t = subst (λ (g : Arguments). step_said Token g ≡ t) (sym end.1) same in
     let words : left ≡ letter w.0 ∷ [] = w.1.1.0 ∙ ap (λ (ws : List (List ℕ)). letter w.0 ∷ ws) end.0 in
-    subst (λ (s : Step). IsTurn load Token left s) (okay-same (step.Token w.0) t said) (record { words = ap (λ (ws : List (List ℕ)). codes "token" ∷ ws) words; fits = (w.1.1.1.0, tt); built = tt })
+    subst (λ (s : Step). IsTurn load Token left s) said (record { words = ap (λ (ws : List (List ℕ)). codes "token" ∷ ws) words; fits = (w.1.1.1.0, tt) })
 turn_says load Place left given t w same =
     let two = w.1.1.1.1 in
     let three = two.1.1.1.1 in
     let end = three.1.1.1.1 in
-    let said : okay (step.Place w.0 two.0 three.0) ≡ okay t = subst (λ (g : Arguments). step_said Place g ≡ okay t) (sym end.1) same in
+    let said : step.Place w.0 two.0 three.0 ≡ t = subst (λ (g : Arguments). step_said Place g ≡ t) (sym end.1) same in
     let words : left ≡ letter w.0 ∷ decimal two.0 ∷ decimal three.0 ∷ [] = w.1.1.0 ∙ ap (λ (ws : List (List ℕ)). letter w.0 ∷ ws) (two.1.1.0 ∙ ap (λ (ws : List (List ℕ)). decimal two.0 ∷ ws) (three.1.1.0 ∙ ap (λ (ws : List (List ℕ)). decimal three.0 ∷ ws) end.0)) in
-    subst (λ (s : Step). IsTurn load Place left s) (okay-same (step.Place w.0 two.0 three.0) t said) (record { words = ap (λ (ws : List (List ℕ)). codes "place" ∷ ws) words; fits = (w.1.1.1.0, (two.1.1.1.0, three.1.1.1.0)); built = tt })
+    subst (λ (s : Step). IsTurn load Place left s) said (record { words = ap (λ (ws : List (List ℕ)). codes "place" ∷ ws) words; fits = (w.1.1.1.0, (two.1.1.1.0, three.1.1.1.0)) })
 turn_says load Gossip left given t w same =
     let two = w.1.1.1.1 in
     let three = two.1.1.1.1 in
     let end = three.1.1.1.1 in
-    let said : okay (step.Gossip w.0 two.0 three.0) ≡ okay t = subst (λ (g : Arguments). step_said Gossip g ≡ okay t) (sym end.1) same in
+    let said : step.Gossip w.0 two.0 three.0 ≡ t = subst (λ (g : Arguments). step_said Gossip g ≡ t) (sym end.1) same in
     let words : left ≡ letter w.0 ∷ decimal two.0 ∷ decimal three.0 ∷ [] = w.1.1.0 ∙ ap (λ (ws : List (List ℕ)). letter w.0 ∷ ws) (two.1.1.0 ∙ ap (λ (ws : List (List ℕ)). decimal two.0 ∷ ws) (three.1.1.0 ∙ ap (λ (ws : List (List ℕ)). decimal three.0 ∷ ws) end.0)) in
-    subst (λ (s : Step). IsTurn load Gossip left s) (okay-same (step.Gossip w.0 two.0 three.0) t said) (record { words = ap (λ (ws : List (List ℕ)). codes "gossip" ∷ ws) words; fits = (w.1.1.1.0, (two.1.1.1.0, three.1.1.1.0)); built = tt })
+    subst (λ (s : Step). IsTurn load Gossip left s) said (record { words = ap (λ (ws : List (List ℕ)). codes "gossip" ∷ ws) words; fits = (w.1.1.1.0, (two.1.1.1.0, three.1.1.1.0)) })
 turn_says load Post left given t w same =
     let two = w.1.1.1.1 in
     let three = two.1.1.1.1 in
     let end = three.1.1.1.1 in
-    let said : okay (step.Post w.0 two.0 three.0) ≡ okay t = subst (λ (g : Arguments). step_said Post g ≡ okay t) (sym end.1) same in
+    let said : step.Post w.0 two.0 three.0 ≡ t = subst (λ (g : Arguments). step_said Post g ≡ t) (sym end.1) same in
     let words : left ≡ letter w.0 ∷ decimal two.0 ∷ decimal three.0 ∷ [] = w.1.1.0 ∙ ap (λ (ws : List (List ℕ)). letter w.0 ∷ ws) (two.1.1.0 ∙ ap (λ (ws : List (List ℕ)). decimal two.0 ∷ ws) (three.1.1.0 ∙ ap (λ (ws : List (List ℕ)). decimal three.0 ∷ ws) end.0)) in
-    subst (λ (s : Step). IsTurn load Post left s) (okay-same (step.Post w.0 two.0 three.0) t said) (record { words = ap (λ (ws : List (List ℕ)). codes "post" ∷ ws) words; fits = (w.1.1.1.0, (two.1.1.1.0, three.1.1.1.0)); built = tt })
+    subst (λ (s : Step). IsTurn load Post left s) said (record { words = ap (λ (ws : List (List ℕ)). codes "post" ∷ ws) words; fits = (w.1.1.1.0, (two.1.1.1.0, three.1.1.1.0)) })
 turn_says load Learn left given t w same =
     let end = w.1.1.1.1 in
-    let said : okay (step.Learn w.0) ≡ okay t = subst (λ (g : Arguments). step_said Learn g ≡ okay t) (sym end.1) same in
+    let said : step.Learn w.0 ≡ t = subst (λ (g : Arguments). step_said Learn g ≡ t) (sym end.1) same in
     let words : left ≡ letter w.0 ∷ [] = w.1.1.0 ∙ ap (λ (ws : List (List ℕ)). letter w.0 ∷ ws) end.0 in
-    subst (λ (s : Step). IsTurn load Learn left s) (okay-same (step.Learn w.0) t said) (record { words = ap (λ (ws : List (List ℕ)). codes "learn" ∷ ws) words; fits = (w.1.1.1.0, tt); built = tt })
+    subst (λ (s : Step). IsTurn load Learn left s) said (record { words = ap (λ (ws : List (List ℕ)). codes "learn" ∷ ws) words; fits = (w.1.1.1.0, tt) })
 turn_says load Send left given t w same =
     let two = w.1.1.1.1 in
     let three = two.1.1.1.1 in
     let end = three.1.1.1.1 in
-    let said : okay (step.Send w.0 two.0 three.0) ≡ okay t = subst (λ (g : Arguments). step_said Send g ≡ okay t) (sym end.1) same in
+    let said : step.Send w.0 two.0 three.0 ≡ t = subst (λ (g : Arguments). step_said Send g ≡ t) (sym end.1) same in
     let words : left ≡ letter w.0 ∷ decimal two.0 ∷ letter three.0 ∷ [] = w.1.1.0 ∙ ap (λ (ws : List (List ℕ)). letter w.0 ∷ ws) (two.1.1.0 ∙ ap (λ (ws : List (List ℕ)). decimal two.0 ∷ ws) (three.1.1.0 ∙ ap (λ (ws : List (List ℕ)). letter three.0 ∷ ws) end.0)) in
-    subst (λ (s : Step). IsTurn load Send left s) (okay-same (step.Send w.0 two.0 three.0) t said) (record { words = ap (λ (ws : List (List ℕ)). codes "send" ∷ ws) words; fits = (record { first = w.1.1.1.0; second = three.1.1.1.0.0; apart = three.1.1.1.0.1 }, two.1.1.1.0); built = tt })
+    subst (λ (s : Step). IsTurn load Send left s) said (record { words = ap (λ (ws : List (List ℕ)). codes "send" ∷ ws) words; fits = (record { first = w.1.1.1.0; second = three.1.1.1.0.0; apart = three.1.1.1.0.1 }, two.1.1.1.0) })
 turn_says load Deliver left given t w same =
     let two = w.1.1.1.1 in
     let three = two.1.1.1.1 in
     let four = three.1.1.1.1 in
     let end = four.1.1.1.1 in
-    let said : okay (step.Deliver w.0 two.0 three.0 four.0) ≡ okay t = subst (λ (g : Arguments). step_said Deliver g ≡ okay t) (sym end.1) same in
+    let said : step.Deliver w.0 two.0 three.0 four.0 ≡ t = subst (λ (g : Arguments). step_said Deliver g ≡ t) (sym end.1) same in
     let words : left ≡ letter w.0 ∷ letter two.0 ∷ decimal three.0 ∷ decimal four.0 ∷ [] = w.1.1.0 ∙ ap (λ (ws : List (List ℕ)). letter w.0 ∷ ws) (two.1.1.0 ∙ ap (λ (ws : List (List ℕ)). letter two.0 ∷ ws) (three.1.1.0 ∙ ap (λ (ws : List (List ℕ)). decimal three.0 ∷ ws) (four.1.1.0 ∙ ap (λ (ws : List (List ℕ)). decimal four.0 ∷ ws) end.0))) in
-    subst (λ (s : Step). IsTurn load Deliver left s) (okay-same (step.Deliver w.0 two.0 three.0 four.0) t said) (record { words = ap (λ (ws : List (List ℕ)). codes "deliver" ∷ ws) words; fits = (record { first = w.1.1.1.0; second = two.1.1.1.0.0; apart = two.1.1.1.0.1 }, (three.1.1.1.0, four.1.1.1.0)); built = tt })
+    subst (λ (s : Step). IsTurn load Deliver left s) said (record { words = ap (λ (ws : List (List ℕ)). codes "deliver" ∷ ws) words; fits = (record { first = w.1.1.1.0; second = two.1.1.1.0.0; apart = two.1.1.1.0.1 }, (three.1.1.1.0, four.1.1.1.0)) })
 turn_says load Lose left given t w same =
     let two = w.1.1.1.1 in
     let three = two.1.1.1.1 in
     let end = three.1.1.1.1 in
-    let said : okay (step.Lose w.0 two.0 three.0) ≡ okay t = subst (λ (g : Arguments). step_said Lose g ≡ okay t) (sym end.1) same in
+    let said : step.Lose w.0 two.0 three.0 ≡ t = subst (λ (g : Arguments). step_said Lose g ≡ t) (sym end.1) same in
     let words : left ≡ letter w.0 ∷ letter two.0 ∷ decimal three.0 ∷ [] = w.1.1.0 ∙ ap (λ (ws : List (List ℕ)). letter w.0 ∷ ws) (two.1.1.0 ∙ ap (λ (ws : List (List ℕ)). letter two.0 ∷ ws) (three.1.1.0 ∙ ap (λ (ws : List (List ℕ)). decimal three.0 ∷ ws) end.0)) in
-    subst (λ (s : Step). IsTurn load Lose left s) (okay-same (step.Lose w.0 two.0 three.0) t said) (record { words = ap (λ (ws : List (List ℕ)). codes "lose" ∷ ws) words; fits = (record { first = w.1.1.1.0; second = two.1.1.1.0.0; apart = two.1.1.1.0.1 }, three.1.1.1.0); built = tt })
+    subst (λ (s : Step). IsTurn load Lose left s) said (record { words = ap (λ (ws : List (List ℕ)). codes "lose" ∷ ws) words; fits = (record { first = w.1.1.1.0; second = two.1.1.1.0.0; apart = two.1.1.1.0.1 }, three.1.1.1.0) })
 turn_says load Copy left given t w same =
     let two = w.1.1.1.1 in
     let three = two.1.1.1.1 in
     let end = three.1.1.1.1 in
-    let said : okay (step.Copy w.0 two.0 three.0) ≡ okay t = subst (λ (g : Arguments). step_said Copy g ≡ okay t) (sym end.1) same in
+    let said : step.Copy w.0 two.0 three.0 ≡ t = subst (λ (g : Arguments). step_said Copy g ≡ t) (sym end.1) same in
     let words : left ≡ letter w.0 ∷ letter two.0 ∷ decimal three.0 ∷ [] = w.1.1.0 ∙ ap (λ (ws : List (List ℕ)). letter w.0 ∷ ws) (two.1.1.0 ∙ ap (λ (ws : List (List ℕ)). letter two.0 ∷ ws) (three.1.1.0 ∙ ap (λ (ws : List (List ℕ)). decimal three.0 ∷ ws) end.0)) in
-    subst (λ (s : Step). IsTurn load Copy left s) (okay-same (step.Copy w.0 two.0 three.0) t said) (record { words = ap (λ (ws : List (List ℕ)). codes "copy" ∷ ws) words; fits = (record { first = w.1.1.1.0; second = two.1.1.1.0.0; apart = two.1.1.1.0.1 }, three.1.1.1.0); built = tt })
+    subst (λ (s : Step). IsTurn load Copy left s) said (record { words = ap (λ (ws : List (List ℕ)). codes "copy" ∷ ws) words; fits = (record { first = w.1.1.1.0; second = two.1.1.1.0.0; apart = two.1.1.1.0.1 }, three.1.1.1.0) })
 turn_says load Floor left given t w same =
     let two = w.1.1.1.1 in
     let end = two.1.1.1.1 in
-    let said : okay (step.Floor w.0 two.0) ≡ okay t = subst (λ (g : Arguments). step_said Floor g ≡ okay t) (sym end.1) same in
+    let said : step.Floor w.0 two.0 ≡ t = subst (λ (g : Arguments). step_said Floor g ≡ t) (sym end.1) same in
     let words : left ≡ letter w.0 ∷ decimal two.0 ∷ [] = w.1.1.0 ∙ ap (λ (ws : List (List ℕ)). letter w.0 ∷ ws) (two.1.1.0 ∙ ap (λ (ws : List (List ℕ)). decimal two.0 ∷ ws) end.0) in
-    subst (λ (s : Step). IsTurn load Floor left s) (okay-same (step.Floor w.0 two.0) t said) (record { words = ap (λ (ws : List (List ℕ)). codes "floor" ∷ ws) words; fits = (w.1.1.1.0, two.1.1.1.0); built = tt })
+    subst (λ (s : Step). IsTurn load Floor left s) said (record { words = ap (λ (ws : List (List ℕ)). codes "floor" ∷ ws) words; fits = (w.1.1.1.0, two.1.1.1.0) })
 turn_says load Collect left given t w same =
     let two = w.1.1.1.1 in
     let end = two.1.1.1.1 in
-    let said : okay (step.Collect w.0 two.0) ≡ okay t = subst (λ (g : Arguments). step_said Collect g ≡ okay t) (sym end.1) same in
+    let said : step.Collect w.0 two.0 ≡ t = subst (λ (g : Arguments). step_said Collect g ≡ t) (sym end.1) same in
     let words : left ≡ letter w.0 ∷ decimal two.0 ∷ [] = w.1.1.0 ∙ ap (λ (ws : List (List ℕ)). letter w.0 ∷ ws) (two.1.1.0 ∙ ap (λ (ws : List (List ℕ)). decimal two.0 ∷ ws) end.0) in
-    subst (λ (s : Step). IsTurn load Collect left s) (okay-same (step.Collect w.0 two.0) t said) (record { words = ap (λ (ws : List (List ℕ)). codes "collect" ∷ ws) words; fits = (w.1.1.1.0, two.1.1.1.0); built = tt })
-turn_says load Announce left given t w same = cc
-turn_says load Mark left given t w same = cc
-turn_says load AddMaintainer left given t w same = cc
-turn_says load AddBatcher left given t w same = cc
-turn_says load AddQueue left given t w same = cc
-turn_says load AddSender left given t w same = cc
-turn_says load AddReceiver left given t w same = cc
+    subst (λ (s : Step). IsTurn load Collect left s) said (record { words = ap (λ (ws : List (List ℕ)). codes "collect" ∷ ws) words; fits = (w.1.1.1.0, two.1.1.1.0) })
+turn_says load Announce left given t w same =
+    let two = w.1.1.1.1 in
+    let three = two.1.1.1.1 in
+    let end = three.1.1.1.1 in
+    let said : step.Announce w.0 two.0 three.0 ≡ t = subst (λ (g : Arguments). step_said Announce g ≡ t) (sym end.1) same in
+    let words : left ≡ letter w.0 ∷ letter two.0 ∷ decimal three.0 ∷ [] = w.1.1.0 ∙ ap (λ (ws : List (List ℕ)). letter w.0 ∷ ws) (two.1.1.0 ∙ ap (λ (ws : List (List ℕ)). letter two.0 ∷ ws) (three.1.1.0 ∙ ap (λ (ws : List (List ℕ)). decimal three.0 ∷ ws) end.0)) in
+    subst (λ (s : Step). IsTurn load Announce left s) said (record { words = ap (λ (ws : List (List ℕ)). codes "announce" ∷ ws) words; fits = (record { first = w.1.1.1.0; second = two.1.1.1.0.0; apart = two.1.1.1.0.1 }, three.1.1.1.0) })
+turn_says load Mark left given t w same =
+    let end = w.1.1.1.1 in
+    let said : step.Mark w.0 ≡ t = subst (λ (g : Arguments). step_said Mark g ≡ t) (sym end.1) same in
+    let words : left ≡ letter w.0 ∷ [] = w.1.1.0 ∙ ap (λ (ws : List (List ℕ)). letter w.0 ∷ ws) end.0 in
+    subst (λ (s : Step). IsTurn load Mark left s) said (record { words = ap (λ (ws : List (List ℕ)). codes "mark" ∷ ws) words; fits = (w.1.1.1.0, tt) })
+turn_says load AddMaintainer left given t w same =
+    let two = w.1.1.1.1 in
+    let end = two.1.1.1.1 in
+    let said : step.AddMaintainer w.0 two.0 ≡ t = subst (λ (g : Arguments). step_said AddMaintainer g ≡ t) (sym end.1) same in
+    let words : left ≡ letter w.0 ∷ decimal two.0 ∷ [] = w.1.1.0 ∙ ap (λ (ws : List (List ℕ)). letter w.0 ∷ ws) (two.1.1.0 ∙ ap (λ (ws : List (List ℕ)). decimal two.0 ∷ ws) end.0) in
+    subst (λ (s : Step). IsTurn load AddMaintainer left s) said (record { words = ap (λ (ws : List (List ℕ)). codes "addmaintainer" ∷ ws) words; fits = ((w.1.1.1.0, omega (arith, two.1.1.1.0.1)), two.1.1.1.0) })
+turn_says load AddBatcher left given t w same =
+    let end = w.1.1.1.1 in
+    let said : step.AddBatcher w.0 ≡ t = subst (λ (g : Arguments). step_said AddBatcher g ≡ t) (sym end.1) same in
+    let words : left ≡ letter w.0 ∷ [] = w.1.1.0 ∙ ap (λ (ws : List (List ℕ)). letter w.0 ∷ ws) end.0 in
+    subst (λ (s : Step). IsTurn load AddBatcher left s) said (record { words = ap (λ (ws : List (List ℕ)). codes "addbatcher" ∷ ws) words; fits = (w.1.1.1.0, tt) })
+turn_says load AddQueue left given t w same =
+    let end = w.1.1.1.1 in
+    let said : step.AddQueue w.0 ≡ t = subst (λ (g : Arguments). step_said AddQueue g ≡ t) (sym end.1) same in
+    let words : left ≡ letter w.0 ∷ [] = w.1.1.0 ∙ ap (λ (ws : List (List ℕ)). letter w.0 ∷ ws) end.0 in
+    subst (λ (s : Step). IsTurn load AddQueue left s) said (record { words = ap (λ (ws : List (List ℕ)). codes "addqueue" ∷ ws) words; fits = (w.1.1.1.0, tt) })
+turn_says load AddSender left given t w same =
+    let end = w.1.1.1.1 in
+    let said : step.AddSender w.0 ≡ t = subst (λ (g : Arguments). step_said AddSender g ≡ t) (sym end.1) same in
+    let words : left ≡ letter w.0 ∷ [] = w.1.1.0 ∙ ap (λ (ws : List (List ℕ)). letter w.0 ∷ ws) end.0 in
+    subst (λ (s : Step). IsTurn load AddSender left s) said (record { words = ap (λ (ws : List (List ℕ)). codes "addsender" ∷ ws) words; fits = (w.1.1.1.0, tt) })
+turn_says load AddReceiver left given t w same =
+    let end = w.1.1.1.1 in
+    let said : step.AddReceiver w.0 ≡ t = subst (λ (g : Arguments). step_said AddReceiver g ≡ t) (sym end.1) same in
+    let words : left ≡ letter w.0 ∷ [] = w.1.1.0 ∙ ap (λ (ws : List (List ℕ)). letter w.0 ∷ ws) end.0 in
+    subst (λ (s : Step). IsTurn load AddReceiver left s) said (record { words = ap (λ (ws : List (List ℕ)). codes "addreceiver" ∷ ws) words; fits = (w.1.1.1.0, tt) })
 
 abbrev pub load_of : Progress → Workload
 load_of said = record { dcs = said.dcs; sessions = said.sessions }
@@ -256,18 +288,21 @@ pub record TakesTurn (said after : Progress) (word : TurnWord) (left : List (Lis
   pub step : Step
   pub turn : IsTurn (load_of said) word left step
   pub room : length said.steps < STEPS
+  pub spare : is_full said.stages said.steps (added_by step) ≡ false
   pub is : and_step said step ≡ after
 
 pub turn_takes : (said after : Progress) (word : TurnWord) (left : List (List ℕ)) → length left ≤ length (turn_arguments word) → turn_line said word left ≡ Ok after → TakesTurn said after word left
 unfolding turn_line with_step
 turn_takes said after word left few same =
     let given = bind_ok (arguments_at said.dcs (length said.sessions) no_arguments (turn_arguments word) left) _ after same in
-    let says = bind_ok (step_said word given.0) _ after given.1.1 in
-    let room = guard_ok (nat_le STEPS (length said.steps)) _ _ after says.1.1 in
+    let told : Step = step_said word given.0 in
+    let let_on = guard_ok (nat_le STEPS (length said.steps) || is_full said.stages said.steps (added_by told)) _ _ after given.1.1 in
+    let room = or_parts (nat_le STEPS (length said.steps)) (is_full said.stages said.steps (added_by told)) let_on.0 in
     let fewer : length said.steps < STEPS = grind (arith, nat_tests, room.0) in
     record {
-      step = says.0;
-      turn = turn_says (load_of said) word left given.0 says.0 (arguments_spell said.dcs (length said.sessions) no_arguments (turn_arguments word) left given.0 few given.1.0) says.1.0;
+      step = told;
+      turn = turn_says (load_of said) word left given.0 told (arguments_spell said.dcs (length said.sessions) no_arguments (turn_arguments word) left given.0 few given.1.0) refl;
       room = fewer;
-      is = okay-same (and_step said says.0) after room.1;
+      spare = room.1;
+      is = okay-same (and_step said told) after let_on.1;
     }

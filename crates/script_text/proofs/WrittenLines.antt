@@ -49,7 +49,7 @@ pub chariots_takes : Takes start first_words (said_at section.Datacentres 0 0 []
 chariots_takes = record {
   full = full (codes "chariots") (decimal 1 ∷ []) (omega arith) (full_decimal 1 [] (omega arith) refl);
   going = refl;
-  means = word_reads start (codes "chariots") (decimal 1 ∷ []) Chariots chariots_word refl refl refl ∙ chariots_means start;
+  means = word_reads start (codes "chariots") (decimal 1 ∷ []) Chariots chariots_word refl refl ∙ chariots_means start;
 }
 
 datacentres_means : (said : Progress) (dcs : ℕ) → 1 ≤ dcs → dcs ≤ DATACENTRES → datacentres_line said (decimal dcs ∷ []) ≡ Ok (record said { dcs = dcs; section = section.Round })
@@ -60,7 +60,7 @@ pub datacentres_takes : (dcs : ℕ) → 1 ≤ dcs → dcs ≤ DATACENTRES → Ta
 datacentres_takes dcs low high = record {
   full = full (codes "datacentres") (decimal dcs ∷ []) (omega arith) (full_decimal dcs [] (omega (arith, high)) refl);
   going = refl;
-  means = word_reads (said_at section.Datacentres 0 0 [] [] 0) (codes "datacentres") (decimal dcs ∷ []) Datacentres datacentres_word refl refl refl
+  means = word_reads (said_at section.Datacentres 0 0 [] [] 0) (codes "datacentres") (decimal dcs ∷ []) Datacentres datacentres_word refl refl
       ∙ datacentres_means (said_at section.Datacentres 0 0 [] [] 0) dcs low high;
 }
 
@@ -72,7 +72,7 @@ pub round_takes : (dcs round : ℕ) → 1 ≤ round → round ≤ ROUND → Take
 round_takes dcs round low high = record {
   full = full (codes "round") (decimal round ∷ []) (omega arith) (full_decimal round [] (omega arith) refl);
   going = refl;
-  means = word_reads (said_at section.Round dcs 0 [] [] 0) (codes "round") (decimal round ∷ []) Round round_word refl refl refl ∙ round_means (said_at section.Round dcs 0 [] [] 0) round low high;
+  means = word_reads (said_at section.Round dcs 0 [] [] 0) (codes "round") (decimal round ∷ []) Round round_word refl refl ∙ round_means (said_at section.Round dcs 0 [] [] 0) round low high;
 }
 
 size_reads : (n : ℕ) (more : List (List ℕ)) → IsSize n → number_at 1 MEMBERS (decimal n ∷ more) ≡ Ok (n, more)
@@ -116,7 +116,7 @@ pub stages_takes : (dcs round : ℕ) (front : List StagesOf) (given : StagesOf) 
 stages_takes dcs round front given few fits new = record {
   full = full (codes "stages") (letter given.dc ∷ sizes_words given.sizes) (omega arith) (full (letter given.dc) (sizes_words given.sizes) (omega arith) (full_sizes given.sizes fits.sizes));
   going = refl;
-  means = word_reads (said_at section.Stages dcs round front [] 0) (codes "stages") (letter given.dc ∷ sizes_words given.sizes) Stages stages_word refl refl refl
+  means = word_reads (said_at section.Stages dcs round front [] 0) (codes "stages") (letter given.dc ∷ sizes_words given.sizes) Stages stages_word refl refl
       ∙ stages_means (said_at section.Stages dcs round front [] 0) given fits.dc few fits.sizes new;
 }
 
@@ -136,7 +136,7 @@ pub session_takes : (here : Section) (dcs round : ℕ) (stages : List StagesOf) 
 session_takes here dcs round stages front count home place within few room = record {
   full = full (codes "session") (letter home ∷ []) (omega arith) (full (letter home) [] (omega arith) refl);
   going = not_ended here place;
-  means = word_reads (said_at here dcs round stages front count) (codes "session") (letter home ∷ []) Session session_word place refl refl
+  means = word_reads (said_at here dcs round stages front count) (codes "session") (letter home ∷ []) Session session_word place refl
       ∙ session_means (said_at here dcs round stages front count) home within few room;
 }
 
@@ -175,17 +175,17 @@ command_says said (command.Append tags body) here fits =
     let most : nat_lt (TAGS + 1) (length ((61 ∷ body) ∷ tags)) ≡ false = grind (arith, nat_tests, fits.0) in
     record {
       full = full (codes "append") ((61 ∷ body) ∷ tags) (omega arith) (full (61 ∷ body) tags (omega arith) (full_names tags fits.1.0));
-      means = word_reads said (codes "append") ((61 ∷ body) ∷ tags) (CommandLine Append) (command_word Append) (ap (λ (s : Section). is_sessions s) here) refl (or_from (nat_lt (length ((61 ∷ body) ∷ tags)) 1) (nat_lt (TAGS + 1) (length ((61 ∷ body) ∷ tags))) least most)
+      means = word_reads said (codes "append") ((61 ∷ body) ∷ tags) (CommandLine Append) (command_word Append) (ap (λ (s : Section). is_sessions s) here) (or_from (nat_lt (length ((61 ∷ body) ∷ tags)) 1) (nat_lt (TAGS + 1) (length ((61 ∷ body) ∷ tags))) least most)
           ∙ append_means said body tags fits.1.1 fits.1.0;
     }
 command_says said (command.Put key body) here fits = record {
   full = full (codes "put") (key ∷ (61 ∷ body) ∷ []) (omega arith) (full key ((61 ∷ body) ∷ []) (omega (arith, fits.0.not_empty)) (full (61 ∷ body) [] (omega arith) refl));
-  means = word_reads said (codes "put") (key ∷ (61 ∷ body) ∷ []) (CommandLine Put) (command_word Put) (ap (λ (s : Section). is_sessions s) here) refl refl
+  means = word_reads said (codes "put") (key ∷ (61 ∷ body) ∷ []) (CommandLine Put) (command_word Put) (ap (λ (s : Section). is_sessions s) here) refl
       ∙ put_means said key body fits.0 fits.1;
 }
 command_says said (command.Get key) here fits = record {
   full = full (codes "get") (key ∷ []) (omega arith) (full key [] (omega (arith, fits.not_empty)) refl);
-  means = word_reads said (codes "get") (key ∷ []) (CommandLine Get) (command_word Get) (ap (λ (s : Section). is_sessions s) here) refl refl
+  means = word_reads said (codes "get") (key ∷ []) (CommandLine Get) (command_word Get) (ap (λ (s : Section). is_sessions s) here) refl
       ∙ get_means said key fits;
 }
 command_says said (command.Tx keys) here fits =
@@ -193,17 +193,17 @@ command_says said (command.Tx keys) here fits =
     let most : nat_lt KEYS (length keys) ≡ false = grind (arith, nat_tests, fits.1.0) in
     record {
       full = full (codes "tx") keys (omega arith) (full_names keys fits.1.1);
-      means = word_reads said (codes "tx") keys (CommandLine Tx) (command_word Tx) (ap (λ (s : Section). is_sessions s) here) refl (or_from (nat_lt (length keys) 1) (nat_lt KEYS (length keys)) least most)
+      means = word_reads said (codes "tx") keys (CommandLine Tx) (command_word Tx) (ap (λ (s : Section). is_sessions s) here) (or_from (nat_lt (length keys) 1) (nat_lt KEYS (length keys)) least most)
           ∙ tx_means said keys fits.1.1;
     }
 command_says said (command.Read lid) here fits = record {
   full = full (codes "read") (decimal lid ∷ []) (omega arith) (full_decimal lid [] (omega (arith, fits.1)) refl);
-  means = word_reads said (codes "read") (decimal lid ∷ []) (CommandLine Read) (command_word Read) (ap (λ (s : Section). is_sessions s) here) refl refl
+  means = word_reads said (codes "read") (decimal lid ∷ []) (CommandLine Read) (command_word Read) (ap (λ (s : Section). is_sessions s) here) refl
       ∙ read_means said lid fits.0 (omega (arith, fits.1));
 }
 command_says said (command.Last tag n) here fits = record {
   full = full (codes "last") (tag ∷ decimal n ∷ []) (omega arith) (full tag (decimal n ∷ []) (omega (arith, fits.0.not_empty)) (full_decimal n [] (omega (arith, fits.1.1)) refl));
-  means = word_reads said (codes "last") (tag ∷ decimal n ∷ []) (CommandLine Last) (command_word Last) (ap (λ (s : Section). is_sessions s) here) refl refl
+  means = word_reads said (codes "last") (tag ∷ decimal n ∷ []) (CommandLine Last) (command_word Last) (ap (λ (s : Section). is_sessions s) here) refl
       ∙ last_means said tag n fits.0 fits.1.0 fits.1.1;
 }
 

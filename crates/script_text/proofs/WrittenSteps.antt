@@ -1,7 +1,7 @@
 -- A step line, as it is written, is read and says the step.
 -- By induction on the kinds of arguments that its word has, and by cases on the step.
 -- The theorem is `turn_takes_line`.
-use Rattle.std.proofs.Common.{◌≡◌, ◌<◌, ◌≤◌, ℕ, List, [], ◌∷◌, ◌++◌, length, refl, ap, sym, subst, ◌∙◌, arith, true, false, ◌||◌}
+use Rattle.std.proofs.Common.{◌≡◌, ◌<◌, ◌≤◌, ℕ, List, [], ◌∷◌, ◌++◌, length, refl, ap, sym, subst, ◌∙◌, arith, false, ◌||◌}
 use Rattle.std.specs.Prelude.{nat_le, nat_lt, Ok, Err, Result, Some}
 use Rattle.std.specs.List.{list_any}
 use Rattle.std.specs.Fmt.{decimal}
@@ -22,10 +22,11 @@ use Rattle.script_text.specs.declared.progress.Stages.{Stages as StagesOf}
 use Rattle.script_text.specs.Words.{is_empty_word}
 use Rattle.script_text.specs.Reading.{◌>>=◌, greatest_number}
 use Rattle.script_text.specs.Arguments.{no_arguments, argument_at, arguments_at, step_said}
-use Rattle.script_text.specs.Keywords.{turn_text, keyword_of, turn_is_built, turn_arguments}
-use Rattle.script_text.specs.Meaning.{with_step, turn_line}
+use Rattle.script_text.specs.Keywords.{turn_text, keyword_of, turn_arguments}
+use Rattle.script_text.specs.Members.{added_by}
+use Rattle.script_text.specs.Meaning.{is_full, with_step, turn_line}
 use Rattle.script_text.specs.Spelled.{letter, turn_words}
-use Rattle.abstract_log.specs.Turns.{FitsStep, IsBuiltStep}
+use Rattle.abstract_log.specs.Turns.{FitsStep}
 use Rattle.std.proofs.lemmas.Bool.{or_from, cond-false}
 use Rattle.cz_base.specs.declared.limits.TheConstants.{DATACENTRES, MEMBERS, SESSIONS, STEPS, PACKETS}
 use Rattle.abstract_log.specs.declared.script.Step.TheVariants as step
@@ -81,12 +82,11 @@ pub record Comes (load : Workload) (t : Step) : Type 0 where
   pub words : turn_words t ≡ turn_text word ∷ left
   pub some : 0 < length (turn_text word)
   pub many : length left ≡ length (turn_arguments word)
-  pub built : turn_is_built word ≡ true
   pub writes : Write load.dcs (length load.sessions) no_arguments (turn_arguments word) left given
-  pub says : step_said word given ≡ okay t
+  pub says : step_said word given ≡ t
 
-step_comes : (load : Workload) (t : Step) → FitsStep load t → IsBuiltStep t → Comes load t
-step_comes load (step.Client s) fits built = record {
+step_comes : (load : Workload) (t : Step) → FitsStep load t → Comes load t
+step_comes load (step.Client s) fits = record {
   word = turn.Client;
   left = decimal s ∷ [];
   given = record no_arguments { session = s };
@@ -94,11 +94,10 @@ step_comes load (step.Client s) fits built = record {
   words = refl;
   some = omega arith;
   many = refl;
-  built = refl;
   writes = (s, ([], (refl, (fits.0, (refl, refl)))));
   says = refl;
 }
-step_comes load (step.Flush d b) fits built = record {
+step_comes load (step.Flush d b) fits = record {
   word = turn.Flush;
   left = letter d ∷ decimal b ∷ [];
   given = record no_arguments { dc = d; member = b };
@@ -106,11 +105,10 @@ step_comes load (step.Flush d b) fits built = record {
   words = refl;
   some = omega arith;
   many = refl;
-  built = refl;
   writes = (d, (decimal b ∷ [], (refl, (fits.0, (b, ([], (refl, (fits.1, (refl, refl)))))))));
   says = refl;
 }
-step_comes load (step.Pass d f q) fits built = record {
+step_comes load (step.Pass d f q) fits = record {
   word = turn.Pass;
   left = letter d ∷ decimal f ∷ decimal q ∷ [];
   given = record no_arguments { dc = d; member = f; second = q };
@@ -118,11 +116,10 @@ step_comes load (step.Pass d f q) fits built = record {
   words = refl;
   some = omega arith;
   many = refl;
-  built = refl;
   writes = (d, (decimal f ∷ decimal q ∷ [], (refl, (fits.0, (f, (decimal q ∷ [], (refl, (fits.1.0, (q, ([], (refl, (fits.1.1, (refl, refl)))))))))))));
   says = refl;
 }
-step_comes load (step.Stamp d q) fits built = record {
+step_comes load (step.Stamp d q) fits = record {
   word = turn.Stamp;
   left = letter d ∷ decimal q ∷ [];
   given = record no_arguments { dc = d; member = q };
@@ -130,11 +127,10 @@ step_comes load (step.Stamp d q) fits built = record {
   words = refl;
   some = omega arith;
   many = refl;
-  built = refl;
   writes = (d, (decimal q ∷ [], (refl, (fits.0, (q, ([], (refl, (fits.1, (refl, refl)))))))));
   says = refl;
 }
-step_comes load (step.Token d) fits built = record {
+step_comes load (step.Token d) fits = record {
   word = turn.Token;
   left = letter d ∷ [];
   given = record no_arguments { dc = d };
@@ -142,11 +138,10 @@ step_comes load (step.Token d) fits built = record {
   words = refl;
   some = omega arith;
   many = refl;
-  built = refl;
   writes = (d, ([], (refl, (fits.0, (refl, refl)))));
   says = refl;
 }
-step_comes load (step.Place d q m) fits built = record {
+step_comes load (step.Place d q m) fits = record {
   word = turn.Place;
   left = letter d ∷ decimal q ∷ decimal m ∷ [];
   given = record no_arguments { dc = d; member = q; second = m };
@@ -154,11 +149,10 @@ step_comes load (step.Place d q m) fits built = record {
   words = refl;
   some = omega arith;
   many = refl;
-  built = refl;
   writes = (d, (decimal q ∷ decimal m ∷ [], (refl, (fits.0, (q, (decimal m ∷ [], (refl, (fits.1.0, (m, ([], (refl, (fits.1.1, (refl, refl)))))))))))));
   says = refl;
 }
-step_comes load (step.Gossip d m k) fits built = record {
+step_comes load (step.Gossip d m k) fits = record {
   word = turn.Gossip;
   left = letter d ∷ decimal m ∷ decimal k ∷ [];
   given = record no_arguments { dc = d; member = m; second = k };
@@ -166,11 +160,10 @@ step_comes load (step.Gossip d m k) fits built = record {
   words = refl;
   some = omega arith;
   many = refl;
-  built = refl;
   writes = (d, (decimal m ∷ decimal k ∷ [], (refl, (fits.0, (m, (decimal k ∷ [], (refl, (fits.1.0, (k, ([], (refl, (fits.1.1, (refl, refl)))))))))))));
   says = refl;
 }
-step_comes load (step.Post d m i) fits built = record {
+step_comes load (step.Post d m i) fits = record {
   word = turn.Post;
   left = letter d ∷ decimal m ∷ decimal i ∷ [];
   given = record no_arguments { dc = d; member = m; second = i };
@@ -178,11 +171,10 @@ step_comes load (step.Post d m i) fits built = record {
   words = refl;
   some = omega arith;
   many = refl;
-  built = refl;
   writes = (d, (decimal m ∷ decimal i ∷ [], (refl, (fits.0, (m, (decimal i ∷ [], (refl, (fits.1.0, (i, ([], (refl, (fits.1.1, (refl, refl)))))))))))));
   says = refl;
 }
-step_comes load (step.Learn d) fits built = record {
+step_comes load (step.Learn d) fits = record {
   word = turn.Learn;
   left = letter d ∷ [];
   given = record no_arguments { dc = d };
@@ -190,11 +182,10 @@ step_comes load (step.Learn d) fits built = record {
   words = refl;
   some = omega arith;
   many = refl;
-  built = refl;
   writes = (d, ([], (refl, (fits.0, (refl, refl)))));
   says = refl;
 }
-step_comes load (step.Send d k e) fits built = record {
+step_comes load (step.Send d k e) fits = record {
   word = turn.Send;
   left = letter d ∷ decimal k ∷ letter e ∷ [];
   given = record no_arguments { dc = d; member = k; other = e };
@@ -202,11 +193,10 @@ step_comes load (step.Send d k e) fits built = record {
   words = refl;
   some = omega arith;
   many = refl;
-  built = refl;
   writes = (d, (decimal k ∷ letter e ∷ [], (refl, (fits.0.first, (k, (letter e ∷ [], (refl, (fits.1, (e, ([], (refl, ((fits.0.second, fits.0.apart), (refl, refl)))))))))))));
   says = refl;
 }
-step_comes load (step.Deliver d e k r) fits built = record {
+step_comes load (step.Deliver d e k r) fits = record {
   word = turn.Deliver;
   left = letter d ∷ letter e ∷ decimal k ∷ decimal r ∷ [];
   given = record no_arguments { dc = d; other = e; packet = k; member = r };
@@ -214,11 +204,10 @@ step_comes load (step.Deliver d e k r) fits built = record {
   words = refl;
   some = omega arith;
   many = refl;
-  built = refl;
   writes = (d, (letter e ∷ decimal k ∷ decimal r ∷ [], (refl, (fits.0.first, (e, (decimal k ∷ decimal r ∷ [], (refl, ((fits.0.second, fits.0.apart), (k, (decimal r ∷ [], (refl, (fits.1.0, (r, ([], (refl, (fits.1.1, (refl, refl)))))))))))))))));
   says = refl;
 }
-step_comes load (step.Lose d e k) fits built = record {
+step_comes load (step.Lose d e k) fits = record {
   word = turn.Lose;
   left = letter d ∷ letter e ∷ decimal k ∷ [];
   given = record no_arguments { dc = d; other = e; packet = k };
@@ -226,11 +215,10 @@ step_comes load (step.Lose d e k) fits built = record {
   words = refl;
   some = omega arith;
   many = refl;
-  built = refl;
   writes = (d, (letter e ∷ decimal k ∷ [], (refl, (fits.0.first, (e, (decimal k ∷ [], (refl, ((fits.0.second, fits.0.apart), (k, ([], (refl, (fits.1, (refl, refl)))))))))))));
   says = refl;
 }
-step_comes load (step.Copy d e k) fits built = record {
+step_comes load (step.Copy d e k) fits = record {
   word = turn.Copy;
   left = letter d ∷ letter e ∷ decimal k ∷ [];
   given = record no_arguments { dc = d; other = e; packet = k };
@@ -238,11 +226,10 @@ step_comes load (step.Copy d e k) fits built = record {
   words = refl;
   some = omega arith;
   many = refl;
-  built = refl;
   writes = (d, (letter e ∷ decimal k ∷ [], (refl, (fits.0.first, (e, (decimal k ∷ [], (refl, ((fits.0.second, fits.0.apart), (k, ([], (refl, (fits.1, (refl, refl)))))))))))));
   says = refl;
 }
-step_comes load (step.Floor d p) fits built = record {
+step_comes load (step.Floor d p) fits = record {
   word = turn.Floor;
   left = letter d ∷ decimal p ∷ [];
   given = record no_arguments { dc = d; position = p };
@@ -250,11 +237,10 @@ step_comes load (step.Floor d p) fits built = record {
   words = refl;
   some = omega arith;
   many = refl;
-  built = refl;
   writes = (d, (decimal p ∷ [], (refl, (fits.0, (p, ([], (refl, (fits.1, (refl, refl)))))))));
   says = refl;
 }
-step_comes load (step.Collect d m) fits built = record {
+step_comes load (step.Collect d m) fits = record {
   word = turn.Collect;
   left = letter d ∷ decimal m ∷ [];
   given = record no_arguments { dc = d; member = m };
@@ -262,29 +248,100 @@ step_comes load (step.Collect d m) fits built = record {
   words = refl;
   some = omega arith;
   many = refl;
-  built = refl;
   writes = (d, (decimal m ∷ [], (refl, (fits.0, (m, ([], (refl, (fits.1, (refl, refl)))))))));
   says = refl;
 }
-step_comes load (step.Announce d h t) fits built = absurd built
-step_comes load (step.Mark d) fits built = absurd built
-step_comes load (step.AddMaintainer d p) fits built = absurd built
-step_comes load (step.AddBatcher d) fits built = absurd built
-step_comes load (step.AddQueue d) fits built = absurd built
-step_comes load (step.AddSender d) fits built = absurd built
-step_comes load (step.AddReceiver d) fits built = absurd built
+step_comes load (step.Announce d h t) fits = record {
+  word = turn.Announce;
+  left = letter d ∷ letter h ∷ decimal t ∷ [];
+  given = record no_arguments { dc = d; other = h; position = t };
+  keyword = turn_word turn.Announce;
+  words = refl;
+  some = omega arith;
+  many = refl;
+  writes = (d, (letter h ∷ decimal t ∷ [], (refl, (fits.0.first, (h, (decimal t ∷ [], (refl, ((fits.0.second, fits.0.apart), (t, ([], (refl, (fits.1, (refl, refl)))))))))))));
+  says = refl;
+}
+step_comes load (step.Mark d) fits = record {
+  word = turn.Mark;
+  left = letter d ∷ [];
+  given = record no_arguments { dc = d };
+  keyword = turn_word turn.Mark;
+  words = refl;
+  some = omega arith;
+  many = refl;
+  writes = (d, ([], (refl, (fits.0, (refl, refl)))));
+  says = refl;
+}
+step_comes load (step.AddMaintainer d p) fits = record {
+  word = turn.AddMaintainer;
+  left = letter d ∷ decimal p ∷ [];
+  given = record no_arguments { dc = d; position = p };
+  keyword = turn_word turn.AddMaintainer;
+  words = refl;
+  some = omega arith;
+  many = refl;
+  writes = (d, (decimal p ∷ [], (refl, (fits.0.0, (p, ([], (refl, (fits.1, (refl, refl)))))))));
+  says = refl;
+}
+step_comes load (step.AddBatcher d) fits = record {
+  word = turn.AddBatcher;
+  left = letter d ∷ [];
+  given = record no_arguments { dc = d };
+  keyword = turn_word turn.AddBatcher;
+  words = refl;
+  some = omega arith;
+  many = refl;
+  writes = (d, ([], (refl, (fits.0, (refl, refl)))));
+  says = refl;
+}
+step_comes load (step.AddQueue d) fits = record {
+  word = turn.AddQueue;
+  left = letter d ∷ [];
+  given = record no_arguments { dc = d };
+  keyword = turn_word turn.AddQueue;
+  words = refl;
+  some = omega arith;
+  many = refl;
+  writes = (d, ([], (refl, (fits.0, (refl, refl)))));
+  says = refl;
+}
+step_comes load (step.AddSender d) fits = record {
+  word = turn.AddSender;
+  left = letter d ∷ [];
+  given = record no_arguments { dc = d };
+  keyword = turn_word turn.AddSender;
+  words = refl;
+  some = omega arith;
+  many = refl;
+  writes = (d, ([], (refl, (fits.0, (refl, refl)))));
+  says = refl;
+}
+step_comes load (step.AddReceiver d) fits = record {
+  word = turn.AddReceiver;
+  left = letter d ∷ [];
+  given = record no_arguments { dc = d };
+  keyword = turn_word turn.AddReceiver;
+  words = refl;
+  some = omega arith;
+  many = refl;
+  writes = (d, ([], (refl, (fits.0, (refl, refl)))));
+  says = refl;
+}
 
 -- what has been said when some steps have been
 abbrev pub stepping : ℕ → ℕ → List StagesOf → List SessionPlan → ℕ → List Step → Progress
 stepping dcs round stages plans count steps = record { section = section.Steps; dcs = dcs; round = round; stages = stages; sessions = plans; commands = count; steps = steps }
 
 turn_means : (said : Progress) (word : TurnWord) (left : List (List ℕ)) (given : Arguments) (t : Step) → said.dcs ≤ DATACENTRES → length said.sessions ≤ SESSIONS → length said.steps < STEPS
-    → Write said.dcs (length said.sessions) no_arguments (turn_arguments word) left given → step_said word given ≡ okay t → turn_line said word left ≡ okay (and_step said t)
+    → is_full said.stages said.steps (added_by t) ≡ false → Write said.dcs (length said.sessions) no_arguments (turn_arguments word) left given → step_said word given ≡ t
+    → turn_line said word left ≡ okay (and_step said t)
 unfolding turn_line with_step
-turn_means said word left given t few room short writes says =
+turn_means said word left given t few room short spare writes says =
     let test : nat_le STEPS (length said.steps) ≡ false = grind (arith, nat_tests) in
+    let both = or_from (nat_le STEPS (length said.steps)) (is_full said.stages said.steps (added_by t)) test spare in
     rw (arguments_read said.dcs (length said.sessions) no_arguments (turn_arguments word) left given few room writes, says)
-    (cond-false (nat_le STEPS (length said.steps)) (Err TooMany) (okay (and_step said t)) test)
+    (cond-false (nat_le STEPS (length said.steps) || is_full said.stages said.steps (added_by t)) (Err TooMany) (okay (and_step said t)) both)
 
 as_many : (n m : ℕ) → n ≡ m → (nat_lt n m || nat_lt m n) ≡ false
 as_many n m same =
@@ -293,15 +350,15 @@ as_many n m same =
     or_from (nat_lt n m) (nat_lt m n) less more
 
 pub turn_takes_line : (dcs round : ℕ) (stages : List StagesOf) (plans : List SessionPlan) (count : ℕ) (done : List Step) (t : Step) → dcs ≤ DATACENTRES → length plans ≤ SESSIONS → length done < STEPS
-    → FitsStep (record { dcs = dcs; sessions = plans }) t → IsBuiltStep t
+    → FitsStep (record { dcs = dcs; sessions = plans }) t → is_full stages done (added_by t) ≡ false
     → Takes (stepping dcs round stages plans count done) (turn_words t) (stepping dcs round stages plans count (done ++ t ∷ []))
-turn_takes_line dcs round stages plans count done t few room short fits built =
+turn_takes_line dcs round stages plans count done t few room short fits spare =
     let said : Progress = stepping dcs round stages plans count done in
-    let comes = step_comes (load_of said) t fits built in
+    let comes = step_comes (load_of said) t fits in
     let made : Takes said (turn_text comes.word ∷ comes.left) (and_step said t) = record {
       full = full (turn_text comes.word) comes.left comes.some (arguments_full dcs (length plans) no_arguments (turn_arguments comes.word) comes.left comes.given room comes.writes);
       going = refl;
-      means = word_reads said (turn_text comes.word) comes.left (Turn comes.word) comes.keyword refl comes.built (as_many (length comes.left) (length (turn_arguments comes.word)) comes.many)
-          ∙ turn_means said comes.word comes.left comes.given t few room short comes.writes comes.says;
+      means = word_reads said (turn_text comes.word) comes.left (Turn comes.word) comes.keyword refl (as_many (length comes.left) (length (turn_arguments comes.word)) comes.many)
+          ∙ turn_means said comes.word comes.left comes.given t few room short spare comes.writes comes.says;
     } in
     subst (λ (ws : List (List ℕ)). Takes said ws (and_step said t)) (sym comes.words) made

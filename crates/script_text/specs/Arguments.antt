@@ -1,10 +1,9 @@
 -- The words of a step line after the first, and the step that they give.
-use Rattle.std.specs.Prelude.{ℕ, List, [], ◌∷◌, Result, Ok, Err}
+use Rattle.std.specs.Prelude.{ℕ, List, [], ◌∷◌, Result, Ok}
 use Rattle.cz_base.specs.declared.limits.TheConstants.{MEMBERS, PACKETS}
 use Rattle.abstract_log.specs.declared.script.Step.{Step}
 use Rattle.abstract_log.specs.declared.script.Step.TheVariants as step
 use Rattle.script_text.specs.declared.fault.Cause.{Cause}
-use Rattle.script_text.specs.declared.fault.Cause.TheVariants.{NotBuilt}
 use Rattle.script_text.specs.declared.keyword.TurnWord.{TurnWord}
 use Rattle.script_text.specs.declared.keyword.TurnWord.TheVariants.{Client, Flush, Pass, Stamp, Token, Place, Gossip, Post, Learn, Send, Deliver, Lose, Copy, Floor, Collect, Announce, Mark, AddMaintainer, AddBatcher, AddQueue, AddSender, AddReceiver}
 use Rattle.script_text.specs.declared.arguments.Argument.{Argument}
@@ -46,26 +45,26 @@ arguments_at dcs sessions given [] left = Ok given
 arguments_at dcs sessions given (kind ∷ kinds) left = argument_at dcs sessions given kind left >>= λ read. arguments_at dcs sessions read.0 kinds read.1
 
 -- the step that a word and what was given with it say
-abbrev pub step_said : TurnWord → Arguments → Result Step Cause
-step_said Client given = Ok (step.Client given.session)
-step_said Flush given = Ok (step.Flush given.dc given.member)
-step_said Pass given = Ok (step.Pass given.dc given.member given.second)
-step_said Stamp given = Ok (step.Stamp given.dc given.member)
-step_said Token given = Ok (step.Token given.dc)
-step_said Place given = Ok (step.Place given.dc given.member given.second)
-step_said Gossip given = Ok (step.Gossip given.dc given.member given.second)
-step_said Post given = Ok (step.Post given.dc given.member given.second)
-step_said Learn given = Ok (step.Learn given.dc)
-step_said Send given = Ok (step.Send given.dc given.member given.other)
-step_said Deliver given = Ok (step.Deliver given.dc given.other given.packet given.member)
-step_said Lose given = Ok (step.Lose given.dc given.other given.packet)
-step_said Copy given = Ok (step.Copy given.dc given.other given.packet)
-step_said Floor given = Ok (step.Floor given.dc given.position)
-step_said Collect given = Ok (step.Collect given.dc given.member)
-step_said Announce given = Err NotBuilt
-step_said Mark given = Err NotBuilt
-step_said AddMaintainer given = Err NotBuilt
-step_said AddBatcher given = Err NotBuilt
-step_said AddQueue given = Err NotBuilt
-step_said AddSender given = Err NotBuilt
-step_said AddReceiver given = Err NotBuilt
+abbrev pub step_said : TurnWord → Arguments → Step
+step_said Client given = step.Client given.session
+step_said Flush given = step.Flush given.dc given.member
+step_said Pass given = step.Pass given.dc given.member given.second
+step_said Stamp given = step.Stamp given.dc given.member
+step_said Token given = step.Token given.dc
+step_said Place given = step.Place given.dc given.member given.second
+step_said Gossip given = step.Gossip given.dc given.member given.second
+step_said Post given = step.Post given.dc given.member given.second
+step_said Learn given = step.Learn given.dc
+step_said Send given = step.Send given.dc given.member given.other
+step_said Deliver given = step.Deliver given.dc given.other given.packet given.member
+step_said Lose given = step.Lose given.dc given.other given.packet
+step_said Copy given = step.Copy given.dc given.other given.packet
+step_said Floor given = step.Floor given.dc given.position
+step_said Collect given = step.Collect given.dc given.member
+step_said Announce given = step.Announce given.dc given.other given.position
+step_said Mark given = step.Mark given.dc
+step_said AddMaintainer given = step.AddMaintainer given.dc given.position
+step_said AddBatcher given = step.AddBatcher given.dc
+step_said AddQueue given = step.AddQueue given.dc
+step_said AddSender given = step.AddSender given.dc
+step_said AddReceiver given = step.AddReceiver given.dc

@@ -111,45 +111,7 @@ stands Steps here = is_stages here || is_sessions here
 stands (Turn word) here = is_steps here
 stands End here = is_steps here
 
--- which lines are read yet
-abbrev pub command_is_built : CommandWord → Bool
-command_is_built Append = true
-command_is_built Put = true
-command_is_built Get = true
-command_is_built Tx = true
-command_is_built Read = true
-command_is_built Last = true
-
-abbrev pub turn_is_built : TurnWord → Bool
-turn_is_built Client = true
-turn_is_built Flush = true
-turn_is_built Pass = true
-turn_is_built Stamp = true
-turn_is_built Token = true
-turn_is_built Place = true
-turn_is_built Gossip = true
-turn_is_built Post = true
-turn_is_built Learn = true
-turn_is_built Send = true
-turn_is_built Deliver = true
-turn_is_built Lose = true
-turn_is_built Copy = true
-turn_is_built Floor = true
-turn_is_built Collect = true
-turn_is_built Announce = false
-turn_is_built Mark = false
-turn_is_built AddMaintainer = false
-turn_is_built AddBatcher = false
-turn_is_built AddQueue = false
-turn_is_built AddSender = false
-turn_is_built AddReceiver = false
-
-abbrev pub is_built : Keyword → Bool
-is_built (Command word) = command_is_built word
-is_built (Turn word) = turn_is_built word
-is_built _ = true
-
--- The words after the first of each step line that is read yet.
+-- The words after the first of each step line.
 abbrev pub turn_arguments : TurnWord → List Argument
 turn_arguments Client = argument.Session ∷ []
 turn_arguments Flush = argument.Datacentre ∷ argument.Member ∷ []
@@ -166,13 +128,13 @@ turn_arguments Lose = argument.Datacentre ∷ argument.Other ∷ argument.Packet
 turn_arguments Copy = argument.Datacentre ∷ argument.Other ∷ argument.Packet ∷ []
 turn_arguments Floor = argument.Datacentre ∷ argument.Position ∷ []
 turn_arguments Collect = argument.Datacentre ∷ argument.Member ∷ []
-turn_arguments Announce = []
-turn_arguments Mark = []
-turn_arguments AddMaintainer = []
-turn_arguments AddBatcher = []
-turn_arguments AddQueue = []
-turn_arguments AddSender = []
-turn_arguments AddReceiver = []
+turn_arguments Announce = argument.Datacentre ∷ argument.Other ∷ argument.Position ∷ []
+turn_arguments Mark = argument.Datacentre ∷ []
+turn_arguments AddMaintainer = argument.Datacentre ∷ argument.Position ∷ []
+turn_arguments AddBatcher = argument.Datacentre ∷ []
+turn_arguments AddQueue = argument.Datacentre ∷ []
+turn_arguments AddSender = argument.Datacentre ∷ []
+turn_arguments AddReceiver = argument.Datacentre ∷ []
 
 -- how many words follow the first, at least and at most
 abbrev pub least_command_words : CommandWord → ℕ

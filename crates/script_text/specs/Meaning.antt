@@ -1,5 +1,5 @@
 -- What each line of a script says, and which script lines spell.
-use Rattle.std.specs.Prelude.{ℕ, zero, suc, ◌+◌, ◌==◌, ◌||◌, Bool, true, not, min, nat_le, nat_lt, List, [], ◌∷◌, ◌++◌, length, if◌then◌else◌, Option, Some, None, Result, Ok, Err}
+use Rattle.std.specs.Prelude.{ℕ, zero, suc, ◌+◌, ◌==◌, ◌||◌, Bool, true, false, not, min, nat_le, nat_lt, List, [], ◌∷◌, ◌++◌, length, if◌then◌else◌, Option, Some, None, Result, Ok, Err}
 use Rattle.std.specs.List.{list_all, list_any, find}
 use Rattle.cz_base.specs.declared.limits.TheConstants.{DATACENTRES, MEMBERS, SESSIONS, COMMANDS, STEPS, ROUND, LAST_RECORDS}
 use Rattle.abstract_log.specs.declared.command.Command.{Command as CommandOf}
@@ -9,7 +9,7 @@ use Rattle.abstract_log.specs.declared.script.Script.{Script}
 use Rattle.abstract_log.specs.declared.script.Sizes.{Sizes}
 use Rattle.abstract_log.specs.declared.script.Step.{Step}
 use Rattle.script_text.specs.declared.fault.Cause.{Cause}
-use Rattle.script_text.specs.declared.fault.Cause.TheVariants.{BadByte, BadSpacing, AfterEnd, UnknownWord, OutOfPlace, NotBuilt, WrongWords, GivenTwice, TooMany, TooShort}
+use Rattle.script_text.specs.declared.fault.Cause.TheVariants.{BadByte, BadSpacing, AfterEnd, UnknownWord, OutOfPlace, WrongWords, GivenTwice, TooMany, TooShort}
 use Rattle.script_text.specs.declared.fault.ScriptFault.{ScriptFault}
 use Rattle.script_text.specs.declared.fault.ScriptFault.TheVariants.{Bad}
 use Rattle.script_text.specs.declared.keyword.Keyword.{Keyword}
@@ -21,8 +21,10 @@ use Rattle.script_text.specs.declared.section.Section.TheVariants as section
 use Rattle.script_text.specs.declared.progress.Progress.{Progress}
 use Rattle.script_text.specs.declared.progress.Stages.{Stages as StagesOf}
 use Rattle.script_text.specs.Words.{words, is_line_byte, is_empty_word}
-use Rattle.script_text.specs.Keywords.{keyword_of, stands, is_built, turn_arguments, least_words, most_words, is_ended}
+use Rattle.script_text.specs.Keywords.{keyword_of, stands, turn_arguments, least_words, most_words, is_ended}
 use Rattle.script_text.specs.Reading.{◌>>=◌, greatest_number, number_at, datacentre_at, body_at, name_at, names_in}
+use Rattle.script_text.specs.declared.members.Addition.{Addition}
+use Rattle.script_text.specs.Members.{added_by, additions, members, one_of_each}
 use Rattle.script_text.specs.Arguments.{no_arguments, arguments_at, step_said}
 
 -- nothing has been said
@@ -125,16 +127,30 @@ command_meaning said Tx rest = tx_line said rest
 command_meaning said Read rest = read_line said rest
 command_meaning said Last rest = last_line said rest
 
--- at most `STEPS` of them
+-- the sizes that a line gives
+abbrev pub sizes_found : Option StagesOf → Sizes
+sizes_found None = one_of_each
+sizes_found (Some given) = given.sizes
+
+abbrev pub sizes_given : List StagesOf → ℕ → Sizes
+sizes_given stages dc = sizes_found (find (λ given. given.dc == dc) stages)
+
+-- whether an addition comes to a stage that has as many members as it may have
+abbrev pub is_full : List StagesOf → List Step → Option Addition → Bool
+is_full stages steps None = false
+is_full stages steps (Some a) = nat_le MEMBERS (members a.stage (sizes_given stages a.dc) + additions a.dc a.stage steps)
+
+-- at most `STEPS` of them, and none that adds a member where there is no room for it
 unfoldable pub with_step : Progress → Step → Result Progress Cause
-with_step said step = if nat_le STEPS (length said.steps) then Err TooMany else Ok (record said { steps = said.steps ++ step ∷ [] })
+with_step said step =
+    if nat_le STEPS (length said.steps) || is_full said.stages said.steps (added_by step) then Err TooMany
+    else Ok (record said { steps = said.steps ++ step ∷ [] })
 
 -- the step lines
 unfoldable pub turn_line : Progress → TurnWord → List (List ℕ) → Result Progress Cause
 turn_line said word rest = do
   given ← arguments_at said.dcs (length said.sessions) no_arguments (turn_arguments word) rest
-  step ← step_said word given
-  with_step said step
+  with_step said (step_said word given)
 
 -- all lines
 abbrev pub meaning : Progress → Keyword → List (List ℕ) → Result Progress Cause
@@ -153,9 +169,8 @@ abbrev pub keyword_after : Progress → Option Keyword → List (List ℕ) → R
 keyword_after said None rest = Err UnknownWord
 keyword_after said (Some keyword) rest =
     if not (stands keyword said.section) then Err OutOfPlace
-    else (if not (is_built keyword) then Err NotBuilt
     else (if nat_lt (length rest) (least_words keyword) || nat_lt (most_words keyword) (length rest) then Err WrongWords
-    else meaning said keyword rest))
+    else meaning said keyword rest)
 
 unfoldable pub words_after : Progress → List (List ℕ) → Result Progress Cause
 words_after said [] = Err UnknownWord
@@ -174,14 +189,6 @@ line_after said line =
     else (if list_any is_empty_word (words line) then Err BadSpacing
     else (if is_ended said.section then Err AfterEnd
     else words_after said (words line))))
-
--- where no line gives the sizes of a datacentre, it has one member in each stage
-abbrev pub sizes_found : Option StagesOf → Sizes
-sizes_found None = record { batchers = 1; filters = 1; queues = 1; maintainers = 1; indexers = 1; senders = 1; receivers = 1 }
-sizes_found (Some given) = given.sizes
-
-abbrev pub sizes_given : List StagesOf → ℕ → Sizes
-sizes_given stages dc = sizes_found (find (λ given. given.dc == dc) stages)
 
 -- the sizes of the datacentres below a number
 abbrev pub sizes_upto : List StagesOf → ℕ → List Sizes

@@ -11,7 +11,8 @@ use Rattle.abstract_log.specs.declared.script.Step.TheVariants as step
 use Rattle.script_text.specs.declared.progress.Stages.{Stages}
 use Rattle.script_text.specs.Words.{words, is_line_byte}
 use Rattle.abstract_log.specs.Fits.{FitsSizes, FitsScript}
-use Rattle.abstract_log.specs.Turns.{FitsStep, IsBuiltStep}
+use Rattle.abstract_log.specs.Turns.{FitsStep}
+use Rattle.script_text.specs.Members.{FitsMembers}
 use Rattle.script_text.specs.Meaning.{is_passed_over, is_given, sizes_upto}
 
 -- the letter of a datacentre
@@ -103,7 +104,7 @@ pub record FitsStages (dcs : ℕ) (given : Stages) : Type 0 where
   pub sizes : FitsSizes given.sizes
 
 -- The lines spell the script as it has to be written: each byte is one of a line, the sizes of a datacentre
--- are given at most once, all ranges are kept, and there are only steps that are read yet.
+-- are given at most once, all ranges are kept, and no stage gets more members than it may have.
 pub record IsWritten (script : Script) (lines : List (List ℕ)) : Type 0 where
   pub spells : Spells script lines
   pub bytes : All (λ line. list_all is_line_byte line ≡ true) lines
@@ -111,4 +112,4 @@ pub record IsWritten (script : Script) (lines : List (List ℕ)) : Type 0 where
   pub once : AreGivenOnce spells.stages
   pub fits : FitsScript script
   pub steps : All (FitsStep script.workload) script.steps
-  pub turns : All IsBuiltStep script.steps
+  pub members : FitsMembers script

@@ -26,7 +26,7 @@ pub enum Argument {
     Second,
     /// The number of a packet, from 1 to [`PACKETS`].
     Packet,
-    /// A position, 1 or more.
+    /// A position, or a record's number at its host, 1 or more.
     Position,
 }
 
@@ -35,7 +35,7 @@ pub enum Argument {
 pub struct Arguments {
     /// The datacentre whose turn it is.
     pub dc: DcId,
-    /// The datacentre at the other end of a link.
+    /// The datacentre at the other end of a link, or the host that a filter serves.
     pub other: DcId,
     /// The number of a session, from 0 on.
     pub session: u32,
@@ -45,7 +45,7 @@ pub struct Arguments {
     pub second: u32,
     /// The place of a packet on a link, from 1 on.
     pub packet: u32,
-    /// A position of the log, from 1 on.
+    /// A position of the log, or a record's number at its host, from 1 on.
     pub position: u32,
 }
 
@@ -103,8 +103,8 @@ pub fn read_arguments(
     Ok(given)
 }
 
-/// The step that a word says with its arguments; the lines that add members are not built yet.
-pub fn step_said(word: TurnWord, given: Arguments) -> Result<Step, Cause>
+/// The step that a word says with its arguments.
+pub fn step_said(word: TurnWord, given: Arguments) -> Step
     ensures { result ≡ step_said word given }
 {
     let Arguments {
@@ -118,27 +118,27 @@ pub fn step_said(word: TurnWord, given: Arguments) -> Result<Step, Cause>
     } = given;
     let p = u64::from(position);
     match word {
-        TurnWord::Client => Ok(Step::Client { s }),
-        TurnWord::Flush => Ok(Step::Flush { d, b: m }),
-        TurnWord::Pass => Ok(Step::Pass { d, f: m, q: n }),
-        TurnWord::Stamp => Ok(Step::Stamp { d, q: m }),
-        TurnWord::Token => Ok(Step::Token { d }),
-        TurnWord::Place => Ok(Step::Place { d, q: m, m: n }),
-        TurnWord::Gossip => Ok(Step::Gossip { d, m, k: n }),
-        TurnWord::Post => Ok(Step::Post { d, m, i: n }),
-        TurnWord::Learn => Ok(Step::Learn { d }),
-        TurnWord::Send => Ok(Step::Send { d, k: m, e }),
-        TurnWord::Deliver => Ok(Step::Deliver { d, e, k, r: m }),
-        TurnWord::Lose => Ok(Step::Lose { d, e, k }),
-        TurnWord::Copy => Ok(Step::Copy { d, e, k }),
-        TurnWord::Floor => Ok(Step::Floor { d, p }),
-        TurnWord::Collect => Ok(Step::Collect { d, m }),
-        TurnWord::Announce
-        | TurnWord::Mark
-        | TurnWord::AddMaintainer
-        | TurnWord::AddBatcher
-        | TurnWord::AddQueue
-        | TurnWord::AddSender
-        | TurnWord::AddReceiver => Err(Cause::NotBuilt),
+        TurnWord::Client => Step::Client { s },
+        TurnWord::Flush => Step::Flush { d, b: m },
+        TurnWord::Pass => Step::Pass { d, f: m, q: n },
+        TurnWord::Stamp => Step::Stamp { d, q: m },
+        TurnWord::Token => Step::Token { d },
+        TurnWord::Place => Step::Place { d, q: m, m: n },
+        TurnWord::Gossip => Step::Gossip { d, m, k: n },
+        TurnWord::Post => Step::Post { d, m, i: n },
+        TurnWord::Learn => Step::Learn { d },
+        TurnWord::Send => Step::Send { d, k: m, e },
+        TurnWord::Deliver => Step::Deliver { d, e, k, r: m },
+        TurnWord::Lose => Step::Lose { d, e, k },
+        TurnWord::Copy => Step::Copy { d, e, k },
+        TurnWord::Floor => Step::Floor { d, p },
+        TurnWord::Collect => Step::Collect { d, m },
+        TurnWord::Announce => Step::Announce { d, h: e, t: p },
+        TurnWord::Mark => Step::Mark { d },
+        TurnWord::AddMaintainer => Step::AddMaintainer { d, p },
+        TurnWord::AddBatcher => Step::AddBatcher { d },
+        TurnWord::AddQueue => Step::AddQueue { d },
+        TurnWord::AddSender => Step::AddSender { d },
+        TurnWord::AddReceiver => Step::AddReceiver { d },
     }
 }

@@ -26,13 +26,10 @@ pub enum Cause {
     /// A line of this kind does not stand here.
     #[error("out of place")]
     OutOfPlace,
-    /// Lines of this kind are not read yet.
-    #[error("not built")]
-    NotBuilt,
     /// Too few or too many words for a line of this kind.
     #[error("wrong number of words")]
     WrongWords,
-    /// No letter of a datacentre of this script, or the one at which the link begins.
+    /// No letter of a datacentre of this script, or the one that the line names first where it names two.
     #[error("bad datacentre")]
     BadDatacentre,
     /// No number: other bytes than digits, a needless zero, or more than ten digits.
@@ -50,7 +47,7 @@ pub enum Cause {
     /// The sizes of this datacentre are given already.
     #[error("given twice")]
     GivenTwice,
-    /// One more session, command or step than a script may have.
+    /// One more session, command or step than a script may have, or one more member than a stage may have.
     #[error("too many")]
     TooMany,
     /// The input ended before `end`.

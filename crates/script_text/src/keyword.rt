@@ -2,7 +2,7 @@
 
 ghost use Rattle.std.specs.Prelude.{◌≡◌, length, bytes_eq};
 ghost use Rattle.std.specs.List.{find};
-ghost use Rattle.script_text.specs.Keywords.{text_of, command_text, turn_text, keyword_of, stands, is_built, turn_is_built, turn_arguments, least_words, most_words, command_is_built, least_command_words, most_command_words};
+ghost use Rattle.script_text.specs.Keywords.{text_of, command_text, turn_text, keyword_of, stands, turn_arguments, least_words, most_words, least_command_words, most_command_words};
 
 use crate::arguments::Argument;
 use crate::section::Section;
@@ -81,19 +81,19 @@ pub enum TurnWord {
     Floor,
     /// A maintainer drops records below the floor that all know.
     Collect,
-    /// A step that is not read yet.
+    /// One filter more is announced for a host, from a number on.
     Announce,
-    /// A step that is not read yet.
+    /// The announcement goes one step on.
     Mark,
-    /// A step that adds a member and is not read yet.
+    /// A maintainer is added, from a position on.
     AddMaintainer,
-    /// A step that adds a member and is not read yet.
+    /// A batcher is added.
     AddBatcher,
-    /// A step that adds a member and is not read yet.
+    /// A queue is added.
     AddQueue,
-    /// A step that adds a member and is not read yet.
+    /// A sender is added.
     AddSender,
-    /// A step that adds a member and is not read yet.
+    /// A receiver is added.
     AddReceiver,
 }
 
@@ -180,23 +180,6 @@ impl Keyword {
         }
     }
 
-    /// Whether lines of this kind are read yet.
-    pub fn is_built(self) -> bool
-        ensures { result ≡ is_built self }
-    {
-        match self {
-            Keyword::Chariots => true,
-            Keyword::Datacentres => true,
-            Keyword::Round => true,
-            Keyword::Stages => true,
-            Keyword::Session => true,
-            Keyword::Command(word) => word.is_built(),
-            Keyword::Steps => true,
-            Keyword::Turn(word) => word.is_built(),
-            Keyword::End => true,
-        }
-    }
-
     /// How many words may follow the first, at least and at most.
     pub fn words(self) -> (usize, usize)
         ensures least { result.0 ≡ least_words self }
@@ -243,20 +226,6 @@ impl CommandWord {
             CommandWord::Tx => b"tx",
             CommandWord::Read => b"read",
             CommandWord::Last => b"last",
-        }
-    }
-
-    // Whether such commands are read yet.
-    fn is_built(self) -> bool
-        ensures { result ≡ command_is_built self }
-    {
-        match self {
-            CommandWord::Append => true,
-            CommandWord::Put => true,
-            CommandWord::Get => true,
-            CommandWord::Tx => true,
-            CommandWord::Read => true,
-            CommandWord::Last => true,
         }
     }
 
@@ -307,37 +276,7 @@ impl TurnWord {
         }
     }
 
-    // Whether such steps are read yet.
-    fn is_built(self) -> bool
-        ensures { result ≡ turn_is_built self }
-    {
-        match self {
-            TurnWord::Client => true,
-            TurnWord::Flush => true,
-            TurnWord::Pass => true,
-            TurnWord::Stamp => true,
-            TurnWord::Token => true,
-            TurnWord::Place => true,
-            TurnWord::Gossip => true,
-            TurnWord::Post => true,
-            TurnWord::Learn => true,
-            TurnWord::Send => true,
-            TurnWord::Deliver => true,
-            TurnWord::Lose => true,
-            TurnWord::Copy => true,
-            TurnWord::Floor => true,
-            TurnWord::Collect => true,
-            TurnWord::Announce => false,
-            TurnWord::Mark => false,
-            TurnWord::AddMaintainer => false,
-            TurnWord::AddBatcher => false,
-            TurnWord::AddQueue => false,
-            TurnWord::AddSender => false,
-            TurnWord::AddReceiver => false,
-        }
-    }
-
-    /// What the words after the first give. What is not read yet has none.
+    /// What the words after the first give.
     pub fn arguments(self) -> &'static [Argument]
         ensures { result.now ≡ turn_arguments self }
     {
@@ -362,13 +301,13 @@ impl TurnWord {
             TurnWord::Copy => &[Argument::Datacentre, Argument::Other, Argument::Packet],
             TurnWord::Floor => &[Argument::Datacentre, Argument::Position],
             TurnWord::Collect => &[Argument::Datacentre, Argument::Member],
-            TurnWord::Announce => &[],
-            TurnWord::Mark => &[],
-            TurnWord::AddMaintainer => &[],
-            TurnWord::AddBatcher => &[],
-            TurnWord::AddQueue => &[],
-            TurnWord::AddSender => &[],
-            TurnWord::AddReceiver => &[],
+            TurnWord::Announce => &[Argument::Datacentre, Argument::Other, Argument::Position],
+            TurnWord::Mark => &[Argument::Datacentre],
+            TurnWord::AddMaintainer => &[Argument::Datacentre, Argument::Position],
+            TurnWord::AddBatcher => &[Argument::Datacentre],
+            TurnWord::AddQueue => &[Argument::Datacentre],
+            TurnWord::AddSender => &[Argument::Datacentre],
+            TurnWord::AddReceiver => &[Argument::Datacentre],
         }
     }
 }

@@ -4,11 +4,12 @@ ghost use Rattle.std.specs.Prelude.{◌≡◌, ◌==◌, IfOk};
 ghost use Rattle.std.specs.List.{list_all, list_any, find};
 ghost use Rattle.script_text.specs.Words.{words, is_line_byte, is_empty_word};
 ghost use Rattle.script_text.specs.Reading.{Gives, Reads};
-ghost use Rattle.script_text.specs.Meaning.{start, chariots_line, datacentres_line, round_line, sizes_at, stages_line, session_line, append_line, put_line, get_line, tx_line, read_line, last_line, with_command, command_meaning, with_step, turn_line, meaning, words_after, line_after, is_given, is_passed_over, sizes_given, script_said};
+ghost use Rattle.script_text.specs.Meaning.{start, chariots_line, datacentres_line, round_line, sizes_at, stages_line, session_line, append_line, put_line, get_line, tx_line, read_line, last_line, with_command, command_meaning, with_step, turn_line, meaning, words_after, line_after, is_full, is_given, is_passed_over, sizes_given, script_said};
 
 use crate::arguments::{read_arguments, step_said};
 use crate::fault::{Cause, LineFault};
 use crate::keyword::{CommandWord, Keyword, TurnWord};
+use crate::members::{Addition, StepList, added_by};
 use crate::section::Section;
 use crate::words::Words;
 use abstract_log::{Command, Script, SessionPlan, Sizes, Step, Workload};
@@ -41,7 +42,7 @@ pub struct Progress {
     /// How many commands all sessions have together.
     pub commands: u32,
     /// The steps in their order.
-    pub steps: Seq<Step>,
+    pub steps: StepList,
 }
 
 // The sizes of a datacentre that no line gives.
@@ -67,7 +68,7 @@ impl Progress {
             stages: Seq::new(alloc),
             sessions: Seq::new(alloc),
             commands: 0,
-            steps: Seq::new(alloc),
+            steps: StepList::new(alloc),
         }
     }
 
@@ -217,8 +218,7 @@ impl Progress {
         ensures { Gives (λ _. self.new) result (turn_line self.old word words.old) }
     {
         let given = read_arguments(word.arguments(), self.dcs, self.sessions.len(), words)?;
-        let step = step_said(word, given)?;
-        self.put_step(step)
+        self.put_step(step_said(word, given))
     }
 
     // The next step.
@@ -226,11 +226,23 @@ impl Progress {
     fn put_step(&mut self, step: Step) -> Result<(), LineFault>
         ensures { Gives (λ _. self.new) result (with_step self.old step) }
     {
-        if self.steps.len() >= STEPS {
+        if self.steps.len() >= STEPS || self.is_full(added_by(&step)) {
             return Err(LineFault::Bad(Cause::TooMany));
         }
         self.steps.push(step)?;
         Ok(())
+    }
+
+    // Whether an addition comes to a stage that has as many members as it may have.
+    fn is_full(&self, added: Option<Addition>) -> bool
+        ensures { result ≡ is_full self.now.stages self.now.steps added }
+    {
+        let Some(to) = added else {
+            return false;
+        };
+        let sizes = sizes_given(&self.stages, to.dc.number());
+        let members = u64::from(to.stage.members(&sizes)) + u64::from(self.steps.additions(&to));
+        MEMBERS as u64 <= members
     }
 
     // One line, but for its first word, whose place and number of words are right.
@@ -278,9 +290,6 @@ impl Progress {
         };
         if !keyword.stands(self.section) {
             return Err(LineFault::Bad(Cause::OutOfPlace));
-        }
-        if !keyword.is_built() {
-            return Err(LineFault::Bad(Cause::NotBuilt));
         }
         let (least, most) = keyword.words();
         let count = words.len();
@@ -330,7 +339,7 @@ impl Progress {
             workload: Workload { dcs, sessions },
             round,
             sizes,
-            steps,
+            steps: steps.into_seq(),
         })
     }
 }

@@ -4,8 +4,9 @@ ghost use Rattle.std.specs.Prelude.{◌≡◌, ℕ, All, IfOk, IsErrOf, MatchRes
 ghost use Rattle.script_text.specs.Lines.{lines};
 ghost use Rattle.abstract_log.specs.Fits.{FitsScript};
 ghost use Rattle.script_text.specs.Meaning.{script_of};
+ghost use Rattle.script_text.specs.Members.{FitsMembers};
 ghost use Rattle.script_text.specs.Spelled.{Spells, IsWritten};
-ghost use Rattle.abstract_log.specs.Turns.{FitsStep, IsBuiltStep};
+ghost use Rattle.abstract_log.specs.Turns.{FitsStep};
 ghost use Rattle.abstract_log.specs.declared.script.Script.{Script};
 ghost use Rattle.script_text.specs.declared.fault.Cause.{Cause};
 
@@ -34,8 +35,8 @@ pub fn read_script(alloc: Global, bytes: &[u8]) -> Result<Script, ScriptFault>
     // between two, and its numbers are in their ranges.
     ensures steps { IfOk result (λ script. All (FitsStep script.workload) script.steps) }
 
-    // As yet it has no steps that add members.
-    ensures built { IfOk result (λ script. All IsBuiltStep script.steps) }
+    // With all members that its steps add, no stage has more than it may have.
+    ensures members { IfOk result FitsMembers }
 {
     read_lines(alloc, bytes)
 }

@@ -57,6 +57,15 @@ round 1
 steps
 ";
 
+/// Two datacentres, of which the second has as many members of each stage as there may be.
+pub(crate) const FULL_STAGES: &str = "\
+chariots 1
+datacentres 2
+round 1
+stages B 16 16 16 16 16 16 16
+steps
+";
+
 /// A whole script without sessions and steps.
 pub(crate) const ENDED: &str = "\
 chariots 1

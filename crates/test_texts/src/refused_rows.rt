@@ -1,7 +1,7 @@
 //! Lines that are refused: behind the same lines each of them, with the first cause that applies.
 use crate::fronts::{
-    EIGHT_DATACENTRES, ENDED, LINKS_OF_TWO, NO_SESSION, ONE_DATACENTRE, ONE_SESSION, SIZES_GIVEN,
-    STEPS_OF_ONE_SESSION,
+    EIGHT_DATACENTRES, ENDED, FULL_STAGES, LINKS_OF_TWO, NO_SESSION, ONE_DATACENTRE, ONE_SESSION,
+    SIZES_GIVEN, STEPS_OF_ONE_SESSION,
 };
 use script_text::{Cause, ScriptFault, read_script};
 use std::alloc::Global;
@@ -141,8 +141,7 @@ fn other_steps_are_refused(rt: HostRuntime) -> Result<(), Fail> {
         ("floor A 4294967296\n", Cause::OutOfRange),
         ("floor 1 A\n", Cause::BadDatacentre),
         ("collect A 16\n", Cause::OutOfRange),
-        ("addmaintainer A\n", Cause::NotBuilt),
-        ("mark A\nmark A\n", Cause::NotBuilt),
+        ("announce A B 1\n", Cause::BadDatacentre),
     ];
     refuses(&rt, rt.alloc(), NO_SESSION, 5, &rows)
 }
@@ -169,6 +168,54 @@ fn steps_of_links_are_refused(rt: HostRuntime) -> Result<(), Fail> {
         ("copy A B 4294967296\n", Cause::OutOfRange),
     ];
     refuses(&rt, rt.alloc(), LINKS_OF_TWO, 5, &rows)
+}
+
+#[test]
+fn announcements_are_refused(rt: HostRuntime) -> Result<(), Fail> {
+    let rows = [
+        ("announce A B\n", Cause::WrongWords),
+        ("announce A A 1\n", Cause::BadDatacentre),
+        ("announce A A 0\n", Cause::BadDatacentre),
+        ("announce A C 1\n", Cause::BadDatacentre),
+        ("announce A B 0\n", Cause::OutOfRange),
+        ("announce B A 4294967296\n", Cause::OutOfRange),
+        ("announce B A x\n", Cause::BadNumber),
+        ("mark\n", Cause::WrongWords),
+        ("mark A 0\n", Cause::WrongWords),
+        ("mark C\n", Cause::BadDatacentre),
+    ];
+    refuses(&rt, rt.alloc(), LINKS_OF_TWO, 5, &rows)
+}
+
+#[test]
+fn additions_are_refused(rt: HostRuntime) -> Result<(), Fail> {
+    let rows = [
+        ("addmaintainer A\n", Cause::WrongWords),
+        ("addmaintainer C 1\n", Cause::BadDatacentre),
+        ("addmaintainer A 0\n", Cause::OutOfRange),
+        ("addmaintainer A 01\n", Cause::BadNumber),
+        ("addmaintainer A 4294967296\n", Cause::OutOfRange),
+        ("addbatcher\n", Cause::WrongWords),
+        ("addbatcher A B\n", Cause::WrongWords),
+        ("addqueue 0\n", Cause::BadDatacentre),
+        ("addsender a\n", Cause::BadDatacentre),
+        ("addreceiver AB\n", Cause::BadDatacentre),
+        ("addindexer A\n", Cause::UnknownWord),
+    ];
+    refuses(&rt, rt.alloc(), LINKS_OF_TWO, 5, &rows)
+}
+
+#[test]
+fn no_member_is_added_to_a_full_stage(rt: HostRuntime) -> Result<(), Fail> {
+    let rows = [
+        ("announce B A 1\n", Cause::TooMany),
+        ("addmaintainer B 1\n", Cause::TooMany),
+        ("addbatcher B\n", Cause::TooMany),
+        ("addqueue B\n", Cause::TooMany),
+        ("addsender B\n", Cause::TooMany),
+        ("addreceiver B\n", Cause::TooMany),
+    ];
+    refuses(&rt, rt.alloc(), FULL_STAGES, 6, &rows)
 }
 
 #[test]

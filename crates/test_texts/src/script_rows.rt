@@ -1,7 +1,7 @@
 //! Scripts that are read, and those that are too long by one line.
 use crate::fronts::{ONE_DATACENTRE, ONE_SESSION};
 use abstract_log::{Command, Step};
-use cz_base::limits::{BODY_BYTES, SESSIONS, STEPS};
+use cz_base::limits::{BODY_BYTES, MEMBERS, SESSIONS, STEPS};
 use cz_base::{DcId, Seq};
 use script_text::{Cause, ScriptFault, read_script};
 use std::alloc::Global;
@@ -186,6 +186,13 @@ lose C A 64
 copy B C 9
 floor C 4294967295
 collect A 9
+announce A C 4294967295
+mark A
+addmaintainer B 4294967295
+addbatcher A
+addqueue C
+addsender C
+addreceiver A
 end
 ";
 
@@ -222,6 +229,20 @@ fn each_turn_is_read(rt: HostRuntime) -> Result<(), Fail> {
             p: 4294967295,
         },
         Step::Collect { d: a, m: 9 },
+        Step::Announce {
+            d: a,
+            h: c,
+            t: 4294967295,
+        },
+        Step::Mark { d: a },
+        Step::AddMaintainer {
+            d: b,
+            p: 4294967295,
+        },
+        Step::AddBatcher { d: a },
+        Step::AddQueue { d: c },
+        Step::AddSender { d: c },
+        Step::AddReceiver { d: a },
     ];
     assert_eq!(rt; script.steps.as_slice(), steps.as_slice());
     assert_eq!(rt; script.workload.dcs, 3);
@@ -257,6 +278,76 @@ fn the_65537th_step_line_is_refused(rt: HostRuntime) -> Result<(), Fail> {
         read_script(rt.alloc(), &one_more).err(),
         Some(ScriptFault::Bad {
             line: 65541,
+            cause: Cause::TooMany
+        })
+    );
+    Ok(())
+}
+
+// A script of three datacentres with two members of each stage at B, and then so many times some line.
+fn with_additions(alloc: Global, line: &str, count: usize) -> Result<Vec<u8>, Fail> {
+    let mut script = Vec::from_slice(alloc, TWO_OF_EACH.as_bytes())?;
+    for _ in 0..count {
+        script.extend_from_slice(line.as_bytes())?;
+    }
+    Ok(script)
+}
+
+const TWO_OF_EACH: &str = "\
+chariots 1
+datacentres 3
+round 1
+stages B 2 2 2 2 2 2 2
+steps
+";
+
+// Lines that each add one member to a stage of B, where there are two at the start.
+const ADDITIONS: [&str; 6] = [
+    "announce B A 1\n",
+    "addmaintainer B 1\n",
+    "addbatcher B\n",
+    "addqueue B\n",
+    "addsender B\n",
+    "addreceiver B\n",
+];
+
+#[test]
+fn the_16th_member_is_read(rt: HostRuntime) -> Result<(), Fail> {
+    for line in &ADDITIONS {
+        let mut text = with_additions(rt.alloc(), line, MEMBERS - 2)?;
+        text.extend_from_slice(b"end\n")?;
+        let script = read_script(rt.alloc(), &text)?;
+        assert_eq!(rt; script.steps.len(), MEMBERS - 2);
+    }
+    Ok(())
+}
+
+#[test]
+fn the_17th_member_is_refused(rt: HostRuntime) -> Result<(), Fail> {
+    for line in &ADDITIONS {
+        let text = with_additions(rt.alloc(), line, MEMBERS - 1)?;
+        assert_eq!(rt;
+            read_script(rt.alloc(), &text).err(),
+            Some(ScriptFault::Bad {
+                line: 20,
+                cause: Cause::TooMany
+            })
+        );
+    }
+    Ok(())
+}
+
+// Filters of one datacentre are counted whatever host they serve, and those of others apart.
+const FILTERS_OF_TWO: &str = "announce B A 1\nannounce B C 1\nannounce C A 1\naddqueue B\n";
+
+#[test]
+fn additions_are_counted_for_each_stage(rt: HostRuntime) -> Result<(), Fail> {
+    let mut text = with_additions(rt.alloc(), FILTERS_OF_TWO, 7)?;
+    text.extend_from_slice(b"announce C B 1\nannounce B C 2\n")?;
+    assert_eq!(rt;
+        read_script(rt.alloc(), &text).err(),
+        Some(ScriptFault::Bad {
+            line: 35,
             cause: Cause::TooMany
         })
     );

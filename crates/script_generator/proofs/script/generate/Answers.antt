@@ -12,6 +12,3 @@ returns-clause-fits c = (is_good c.args.seed _ (returns-clause-script c)).fits
 
 pub returns-clause-steps : goal.returns-clause-steps
 returns-clause-steps c = (is_good c.args.seed _ (returns-clause-script c)).steps
-
-pub returns-clause-built : goal.returns-clause-built
-returns-clause-built c = (is_good c.args.seed _ (returns-clause-script c)).turns

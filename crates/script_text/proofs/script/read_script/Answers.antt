@@ -1,7 +1,7 @@
 -- What the check asks of `read_script` beyond what it finds by itself.
 use Rattle.script_text.specs.Lines.{lines}
 use Rattle.script_text.proofs.Accepted.{all-only}
-use Rattle.script_text.proofs.Laid.{all-written, all-spell, all-fit, all-steps, all-built}
+use Rattle.script_text.proofs.Laid.{all-written, all-spell, all-fit, all-steps, all-members}
 use Rattle.script_text.proofs.script.read_script.Goals as goal
 
 pub returns-clause-fits : goal.returns-clause-fits
@@ -13,8 +13,8 @@ returns-clause-spelled c = all-spell (lines c.args.bytes.now) c.read_lines.resul
 pub returns-clause-steps : goal.returns-clause-steps
 returns-clause-steps c = all-steps (lines c.args.bytes.now) c.read_lines.result c.read_lines.ensures.ok
 
-pub returns-clause-built : goal.returns-clause-built
-returns-clause-built c = all-built (lines c.args.bytes.now) c.read_lines.result c.read_lines.ensures.ok
+pub returns-clause-members : goal.returns-clause-members
+returns-clause-members c = all-members (lines c.args.bytes.now) c.read_lines.result c.read_lines.ensures.ok
 
 pub returns-clause-only : goal.returns-clause-only
 returns-clause-only c = all-only (lines c.args.bytes.now) c.read_lines.result c.read_lines.ensures.ok c.read_lines.ensures.bad

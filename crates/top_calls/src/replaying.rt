@@ -1,0 +1,119 @@
+//! A script is read and replayed, and its report is made and written.
+ghost use Rattle.std.specs.Prelude.{◌≡◌, Some, IfOk, IfErr, All};
+ghost use Rattle.abstract_log.specs.Fits.{FitsLimits, FitsScript};
+ghost use Rattle.abstract_log.specs.Left.{left_of};
+ghost use Rattle.abstract_log.specs.Runs.{IsRun, world_of};
+ghost use Rattle.abstract_log.specs.Turns.{FitsStep};
+ghost use Rattle.top_calls.specs.Ending.{EndsReport, IsRefusedFor, WasRead, WritesFront, text_of};
+ghost use Rattle.top_calls.specs.Telling.{IsTold, IsToldOfSource};
+
+use crate::done::{Done, Refusal, bad_line, write_front};
+use abstract_log::{Left, Run, Script, StageLog};
+use command_line::Form;
+use cz_base::{NoMemory, ReadAllFault, Sink, Source, read_all};
+use report_text::{full, json, logs, summary};
+use script_text::{ScriptFault, read_script};
+use std::alloc::Global;
+use std::mem::drop;
+use world::Played;
+
+/// The longest script that is read, in bytes.
+pub const SCRIPT_LIMIT: usize = 4_194_304;
+
+/// A run, the turns that brought it, and its report.
+#[derive(Drop)]
+pub struct Told {
+    /// The events, and the workload that they answer.
+    pub run: Run,
+    /// A line for each turn, but the idle ones of settling.
+    pub stages: StageLog,
+    /// The bytes of the report.
+    pub text: Vec<u8>,
+}
+
+/// Reads the script, replays it and makes the report.
+pub fn read_and_replay<S: Source>(
+    alloc: Global,
+    form: Form,
+    source: &mut S,
+) -> Result<Told, Refusal>
+    ensures ok { IfOk result (IsToldOfSource form (S.left source.old) (S.left source.new) (S.faults source.old) (S.faults source.new)) }
+    ensures refused { IfErr result (IsRefusedFor (S.left source.old) (S.left source.new) (S.faults source.old) (S.faults source.new)) }
+{
+    let script = read(alloc, source)?;
+    Ok(tell(alloc, form, script)?)
+}
+
+// Reads all that the source still gives, as a script.
+fn read<S: Source>(alloc: Global, source: &mut S) -> Result<Script, Refusal>
+    ensures read { IfOk result (WasRead (S.left source.old) (S.left source.new) (S.faults source.old) (S.faults source.new)) }
+    ensures fits { IfOk result FitsScript }
+    ensures steps { IfOk result (λ script. All (FitsStep script.workload) script.steps) }
+    ensures refused { IfErr result (IsRefusedFor (S.left source.old) (S.left source.new) (S.faults source.old) (S.faults source.new)) }
+{
+    let bytes = match read_all(alloc, source, SCRIPT_LIMIT) {
+        Ok(bytes) => bytes,
+        Err(ReadAllFault::ReadFault) => return Err(Refusal::ReadFault),
+        Err(ReadAllFault::TooLong { .. }) => return Err(Refusal::TooLong),
+        Err(ReadAllFault::NoMemory) => return Err(Refusal::NoMemory),
+    };
+    match read_script(alloc, &bytes) {
+        Ok(script) => Ok(script),
+        Err(ScriptFault::Bad { line, cause }) => {
+            let told = bad_line(alloc, line, cause)?;
+            Err(Refusal::Script(told))
+        }
+        Err(ScriptFault::NoMemory) => Err(Refusal::NoMemory),
+    }
+}
+
+/// Replays a script and makes its report.
+pub fn tell(alloc: Global, form: Form, script: Script) -> Result<Told, NoMemory>
+    requires fits { FitsScript script }
+    requires steps { All (FitsStep script.workload) script.steps }
+    ensures { IfOk result (IsTold form script) }
+{
+    let played = world::replay(alloc, &script)?;
+    // The run has all of it that the report tells.
+    drop(script);
+    let Played { run, stages, left } = played;
+    let text = text_in(alloc, form, &run, &stages, &left)?;
+    Ok(Told { run, stages, text })
+}
+
+// The report of a run in a form.
+fn text_in(
+    alloc: Global,
+    form: Form,
+    run: &Run,
+    stages: &StageLog,
+    left: &Left,
+) -> Result<Vec<u8>, NoMemory>
+    requires run { IsRun run.now.workload run.now.events }
+    requires limits { FitsLimits run.now.workload }
+    requires left { left.now ≡ left_of (world_of run.now.workload run.now.events) }
+    ensures { IfOk result (λ bytes. bytes.items ≡ text_of form run.now stages.now) }
+{
+    match form {
+        Form::Full => full(alloc, run, Some(stages), left),
+        Form::Logs => logs(alloc, run, left),
+        Form::Summary => summary(alloc, run, Some(stages)),
+        Form::Json => json(alloc, run, left),
+    }
+}
+
+/// Writes the report, as far as the sink takes it.
+pub fn report<K: Sink>(told: Told, sink: &mut K) -> Done
+    ensures run { result.run ≡ Some told.run }
+    ensures stages { result.stages ≡ Some told.stages }
+    ensures front { WritesFront (K.written sink.old) (K.written sink.new) (K.faults sink.old) (K.faults sink.new) told.text.items }
+    ensures status { EndsReport (K.written sink.old) (K.written sink.new) (K.faults sink.old) (K.faults sink.new) told.text.items result.status }
+{
+    let Told { run, stages, text } = told;
+    let whole = write_front(sink, &text);
+    Done {
+        status: if whole { 0 } else { 5 },
+        run: Some(run),
+        stages: Some(stages),
+    }
+}
