@@ -8,3 +8,5 @@ pub mod Running
 pub mod LawsLemmas
 pub mod SumLemmas
 pub mod MarkLemmas
+pub mod Releasing
+pub mod Losing

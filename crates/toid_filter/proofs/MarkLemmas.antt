@@ -1,12 +1,12 @@
 -- Filters that hear of a mark, forget it, or take the map that grew at it.
-use Rattle.std.proofs.Common.{◌≡◌, ◌⊎◌, ℕ, ◌+◌, ◌-◌, ◌<◌, ◌≤◌, Bool, true, false, cond, leb, ltb, eqb, not, ◌&&◌, List, [], ◌∷◌, ◌++◌, length, map, filter, get_or, set, refl, ap, sym, ◌∙◌, subst, inl, inr, arith, Option, Some, None, Contains}
+use Rattle.std.proofs.Common.{◌≡◌, ◌⊎◌, ℕ, ◌+◌, ◌-◌, ◌<◌, ◌≤◌, Bool, true, false, cond, leb, ltb, eqb, not, ◌&&◌, List, [], ◌∷◌, ◌++◌, length, map, filter, get_or, set, refl, ap, ap₂, sym, ◌∙◌, subst, inl, inr, arith, Option, Some, None, Contains}
 use Rattle.std.specs.List.{All, sum_by, flat_map}
 use Rattle.std.proofs.lemmas.Nat.{mod_below}
 use Rattle.std.proofs.lemmas.List.{get_or-set_same, get_or-set_other, length-set, length-map, get_or-map, length_push, set_past, get_or_append_left, get_or_push, get_or_default}
 use Rattle.std.proofs.lemmas.List.Elements.{All-nil, All-weaker, All-push, All-append, All-filter, All-map, All-head, All-tail, All-contains}
 use Rattle.std.proofs.lemmas.List.Kept.{AllPairs-filter}
 use Rattle.std.proofs.lemmas.List.Sums.{sum_by_push}
-use Rattle.std.proofs.lemmas.Bool.{cases_eq, cases_lt, cond_both, cond-true, cond-false, leb-true, and_from, and_parts, and_cases, le-leb, le-ltb, lt-ltb, ltb-true, ltb-false, eqb-false, eqb-true, true≢false, false_from_ne_true}
+use Rattle.std.proofs.lemmas.Bool.{cases_eq, cases_lt, cond_both, cond-true, cond-false, leb-true, and_from, and_parts, and_cases, le-leb, lt-leb, le-ltb, lt-ltb, ltb-true, ltb-false, eqb-false, eqb-true, true≢false, false_from_ne_true}
 use Rattle.std.proofs.lemmas.Option.{same_Some}
 use Rattle.causal_deps.specs.declared.record.Record.{Record}
 use Rattle.causal_deps.specs.declared.record.Item.{Item}
@@ -18,6 +18,7 @@ use Rattle.toid_filter.specs.Champions.{champion, dealt_by, dealt_from, grown, l
 use Rattle.toid_filter.specs.Filters.{FilterState, Announcement, no_filter, new_filter, filter_at, owns, is_passed, is_held_back, is_due, is_own, is_past, times_passed, cancelled, activated, handed_out, mark_accepted, stands_before, Fits, IsTidy, IsSteady, AreSound}
 use Rattle.toid_filter.specs.Sums.{items_of, in_held, in_out, passed, LosesNothing}
 use Rattle.toid_filter.specs.Marks.{mark_of, asked_next, accepted_next, grown_by, filters_grown}
+use Rattle.toid_filter.proofs.ShareLemmas.{last_of_shares-push}
 use Rattle.toid_filter.proofs.Tests.{all_from_contains, held_back_below}
 use Rattle.toid_filter.proofs.FilterLemmas.{passed_parts, passed_from, due_parts, due_from, own_is, released_steady, new_steady, none_reached}
 use Rattle.toid_filter.proofs.LawsLemmas.{at_set, all_at}
@@ -54,6 +55,11 @@ announced_sound m fs h mark sound host later room =
     }
 
 -- a filter that passed no number at or above a mark accepts it
+-- no number at or above the mark was passed
+pub not_past : (passed mark : ℕ) → ((1 ≤ passed) × (passed < mark)) ⊎ (passed < 1) → (leb 1 passed && leb mark passed) ≡ false
+not_past passed mark (inl below) = ap₂ (λ a b. a && b) (le-leb 1 passed below.0) (lt-leb mark passed below.1)
+not_past passed mark (inr none) = ap (λ b. b && leb mark passed) (lt-leb 1 passed none)
+
 pub accepts : (f : FilterState) (h mark : ℕ) → IsSteady f → f.accepted ≡ None → is_past h mark f ≡ false → IsSteady (record f { accepted = Some (record { host = h; from = mark }) })
 accepts f h mark steady free past =
     let x : FilterState = record f { accepted = Some (record { host = h; from = mark }) } in record {
@@ -105,7 +111,7 @@ accepted_sound m a fs sound low past = record {
     unmarked = sound.heard a.next low ∙ cond-false (ltb a.next a.next) (Some (mark_of a)) None (le-ltb a.next a.next (omega arith))
 
 -- A filter forgets its mark.
-open_tidy : (f : FilterState) → IsTidy f → IsTidy (record f { accepted = None })
+pub open_tidy : (f : FilterState) → IsTidy f → IsTidy (record f { accepted = None })
 open_tidy f tidy = record {
   width = tidy.width;
   reached_own = tidy.reached_own;
@@ -162,10 +168,6 @@ cancelled_sound m a fs sound = record {
 share_from-append : (f : Share) (xs : List Share) (n : Share) (t : ℕ) → share_from f (xs ++ n ∷ []) t ≡ cond (leb n.start t) n (share_from f xs t)
 share_from-append f [] n t = refl
 share_from-append f (x ∷ xs) n t = share_from-append (cond (leb x.start t) x f) xs n t
-
-pub last_of_shares-push : (f : Share) (xs : List Share) (n : Share) → last_of_shares f (xs ++ n ∷ []) ≡ n
-last_of_shares-push f [] n = refl
-last_of_shares-push f (x ∷ xs) n = last_of_shares-push x xs n
 
 module _ (m : List (List Share)) (h mark : ℕ) where
   abbrev shares : List Share

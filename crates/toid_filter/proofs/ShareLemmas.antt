@@ -1,15 +1,16 @@
 -- Shares of a host's numbers, and the filters that they deal them to.
-use Rattle.std.proofs.Common.{◌≡◌, ◌↔◌, ℕ, ◌+◌, ◌-◌, ◌*◌, ◌/◌, ◌%◌, ◌<◌, ◌≤◌, min, max, cond, leb, List, [], ◌∷◌, length, drop, get_or, refl, ap, sym, ◌∙◌, subst, inl, inr, arith, add-one, Some, slice_get}
+use Rattle.std.proofs.Common.{◌≡◌, ◌↔◌, ℕ, ◌+◌, ◌-◌, ◌*◌, ◌/◌, ◌%◌, ◌<◌, ◌≤◌, min, max, cond, leb, List, [], ◌∷◌, ◌++◌, zero, suc, length, take, drop, get_or, set, refl, ap, ap₂, sym, ◌∙◌, subst, inl, inr, arith, add-one, Some, slice_get}
 use Rattle.std.proofs.Math.Nat.{div-add-mod, add-mul-mod_self_left}
-use Rattle.std.proofs.Math.Seq.{drop-cons}
-use Rattle.std.specs.List.{All}
+use Rattle.std.proofs.Math.Seq.{drop-cons, take-suc}
+use Rattle.std.specs.List.{All, AllPairs}
 use Rattle.std.proofs.lemmas.Nat.{mod_below}
 use Rattle.std.proofs.lemmas.Bool.{cases_lt, cond-true, cond-false, le-leb, lt-leb}
-use Rattle.std.proofs.lemmas.List.{length-replicate, length-drop, get_or-drop, get_or_default, nil_from_length}
-use Rattle.std.proofs.lemmas.List.Elements.{All-nil, All-cons, All-head, All-tail, All-replicate, All-contains}
+use Rattle.std.proofs.lemmas.List.{length-replicate, length-drop, length-set, get_or-drop, get_or_default, nil_from_length}
+use Rattle.std.proofs.lemmas.List.Elements.{All-nil, All-cons, All-head, All-tail, All-push, All-replicate, All-set, All-contains}
+use Rattle.std.proofs.lemmas.List.Quantifiers.{all_pairs_push}
 use Rattle.causal_deps.proofs.Lists.{Contains-slice_get}
 use Rattle.toid_filter.specs.declared.champions.Share.{Share}
-use Rattle.toid_filter.specs.Champions.{share_from, dealt_by, dealt_from, AreShares, IsMap, first_map, IsServedBy, Serves, sole_share}
+use Rattle.toid_filter.specs.Champions.{share_from, dealt_by, dealt_from, AreShares, IsMap, first_map, grown, last_of_shares, last_share, IsServedBy, Serves, sole_share}
 
 -- a summand may be reduced first
 pub mod_inside : (a i n : ℕ) → (a + i % n) % n ≡ (a + i) % n
@@ -129,3 +130,56 @@ first_is_map dcs filters some few served =
         rising = λ i j d before inside. absurd (omega arith);
       });
     }
+
+-- the last share, one after another
+pub last_of_shares-push : (f : Share) (xs : List Share) (n : Share) → last_of_shares f (xs ++ n ∷ []) ≡ n
+last_of_shares-push f [] n = refl
+last_of_shares-push f (x ∷ xs) n = last_of_shares-push x xs n
+
+pub last_next : (items : List Share) (i : ℕ) (d : Share) → i < length items → get_or items i d ≡ last_of_shares sole_share (take (i + 1) items)
+last_next items i d within =
+    sym (ap (λ n. last_of_shares sole_share (take n items)) (add-one i) ∙ ap (last_of_shares sole_share) (take-suc items i d within) ∙ last_of_shares-push sole_share (take i items) (get_or items i d))
+
+pub last_all : (found : Share) (items : List Share) (i : ℕ) → length items ≤ i → found ≡ last_of_shares sole_share (take i items) → found ≡ last_of_shares sole_share items
+last_all found items i past is = is ∙ ap (last_of_shares sole_share) (take_past items i past)
+  where
+    take_past : (xs : List Share) (n : ℕ) → length xs ≤ n → take n xs ≡ xs
+    take_past [] zero past = refl
+    take_past [] (suc n) past = refl
+    take_past (x ∷ xs) zero past = absurd (omega (arith, past))
+    take_past (x ∷ xs) (suc n) past = ap (λ ys. x ∷ ys) (take_past xs n (omega (arith, past)))
+
+-- The grown map is a map.
+
+last_greatest : (found : Share) (xs : List Share) → AllPairs (λ e f. e.start < f.start) xs → (k : ℕ) (d : Share) → k < length xs → (get_or xs k d).start ≤ (last_of_shares found xs).start
+last_greatest found [] rising k d within = absurd (omega (arith, within))
+last_greatest found (x ∷ []) rising zero d within = omega arith
+last_greatest found (x ∷ []) rising (suc k) d within = absurd (omega (arith, within))
+last_greatest found (x ∷ y ∷ ys) rising zero d within =
+    omega (arith, rising 0 1 d (omega arith) (omega arith), last_greatest x (y ∷ ys) (λ i j e less there. rising (suc i) (suc j) e (omega (arith, less)) (omega (arith, there))) 0 d (omega arith))
+last_greatest found (x ∷ y ∷ ys) rising (suc k) d within =
+    last_greatest x (y ∷ ys) (λ i j e less there. rising (suc i) (suc j) e (omega (arith, less)) (omega (arith, there))) k d (omega (arith, within))
+
+shares_grown : (shares : List Share) (e : Share) → AreShares shares → 1 ≤ e.filters → (last_of_shares sole_share shares).start < e.start → AreShares (shares ++ e ∷ [])
+shares_grown shares e are some above = record {
+  filters = All-push (λ (x : Share). 1 ≤ x.filters) shares e are.filters some;
+  rising = all_pairs_push (λ (a b : Share). a.start < b.start) shares e are.rising (λ k d within. omega (arith, above, last_greatest sole_share shares are.rising k d within));
+}
+
+pub grown_is_map : (m : List (List Share)) (h mark : ℕ) → IsMap m → h < length m → (last_share m h).start < mark → IsMap (grown m h mark)
+grown_is_map m h mark is within above =
+    let e : Share = record { start = mark; filters = (last_share m h).filters + 1 } in
+    let size : length (grown m h mark) ≡ length m = length-set m h (get_or m h [] ++ e ∷ []) in
+    record {
+      some = omega (arith, is.some, size);
+      few = omega (arith, is.few, size);
+      each = All-set AreShares m h (get_or m h [] ++ e ∷ []) (shares_grown (get_or m h []) e (is.each h [] within) (omega arith) above) is.each;
+    }
+
+-- the copy with one share more at a host
+pub pushed_is_grown : (m hosts : List (List Share)) (h mark at filters : ℕ) (was now : List Share) → hosts ≡ m → h < length m → at ≡ h → was ≡ get_or hosts at was → now ≡ was ++ (record { start = mark; filters = filters + 1 }) ∷ []
+    → filters ≡ (last_share m h).filters → set hosts at now ≡ grown m h mark
+pushed_is_grown m hosts h mark at filters was now same within place was_is now_is count =
+    let there : was ≡ get_or m h [] = was_is ∙ get_or_default hosts at was [] (omega (arith, within, place, ap (length {A = List Share}) same)) ∙ ap₂ (λ xs i. get_or xs i []) same place in
+    ap₂ (λ xs i. set xs i now) same place
+    ∙ ap (set m h) (now_is ∙ ap₂ (λ (xs : List Share) n. xs ++ (record { start = mark; filters = n + 1 }) ∷ []) there count)

@@ -1,5 +1,5 @@
 -- Filters: each record from another datacentre goes to one of them, its champion, which passes it once and in order.
-use Rattle.std.specs.Prelude.{◌≡◌, ℕ, zero, suc, ◌+◌, ◌<◌, ◌≤◌, ◌==◌, ◌&&◌, ◌||◌, Bool, true, false, not, if◌then◌else◌, nat_le, nat_lt, List, [], ◌∷◌, ◌++◌, length, map, replicate, Option, Some, None, slice_index, slice_index_or, count_by, filter, All}
+use Rattle.std.specs.Prelude.{◌≡◌, ℕ, zero, suc, ◌+◌, ◌<◌, ◌≤◌, ◌==◌, ◌&&◌, ◌||◌, Bool, true, false, not, if◌then◌else◌, nat_le, nat_lt, List, [], ◌∷◌, ◌++◌, length, map, replicate, Option, Some, None, slice_get, slice_index, slice_index_or, count_by, filter, All}
 use Rattle.std.specs.List.{list_any, AllPairs}
 use Rattle.causal_deps.specs.declared.record.Record.{Record}
 use Rattle.causal_deps.specs.declared.record.Item.{Item}
@@ -7,6 +7,8 @@ use Rattle.causal_deps.specs.declared.record.Item.TheVariants.{Local, External}
 use Rattle.causal_deps.specs.Counts.{raised}
 use Rattle.toid_filter.specs.declared.champions.Share.{Share}
 use Rattle.toid_filter.specs.declared.filter.Mark.{Mark}
+use Rattle.toid_filter.specs.declared.filter.Accept.{Accept}
+use Rattle.toid_filter.specs.declared.filter.Accept.TheVariants.{Accepted, Late}
 use Rattle.toid_filter.specs.declared.filter.Verdict.{Verdict}
 use Rattle.toid_filter.specs.declared.filter.Verdict.TheVariants.{Passed, Held, Dropped}
 use Rattle.toid_filter.specs.Champions.{champion, last_share, Serves}
@@ -204,6 +206,19 @@ pub record AreSound (map : List (List Share)) (announcement : Option Announcemen
 -- the filter has passed a number of the host at or above the mark
 abbrev pub is_past : ℕ → ℕ → FilterState → Bool
 is_past h mark f = nat_le 1 (slice_index f.reached h) && nat_le mark (slice_index f.reached h)
+
+-- what a filter answers that is asked to accept a mark, and what it then is
+abbrev pub accept_told : ℕ → ℕ → FilterState → Accept
+accept_told h mark f = if is_past h mark f then Late (slice_index f.reached h) else Accepted
+
+abbrev pub accepted_by : ℕ → ℕ → FilterState → FilterState
+accepted_by h mark f = if is_past h mark f then f else record f { accepted = Some (record { host = h; from = mark }) }
+
+-- The record is the first held from number `first` of host h on, it is of that host, and no smaller number from there on is the filter's.
+pub record IsNext (map : List (List Share)) (number h first : ℕ) (held : List Record) (q : Record) : Type 0 where
+  pub is : slice_get (from_name h first held) 0 ≡ Some q
+  pub host : q.host ≡ h
+  pub next : Serves map number h first q.toid → ⊥
 
 -- the filter forgets its accepted mark, and what is due passes
 abbrev pub cancelled : FilterState → FilterState

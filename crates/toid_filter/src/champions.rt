@@ -1,8 +1,8 @@
 //! Champions: which filter serves each number of each host.
 
 ghost use Rattle.std.specs.Prelude.{◌≡◌, ◌<◌, ◌≤◌, ◌↔◌, [], length, slice_index_or, IfOk, IsTrue};
-ghost use Rattle.toid_filter.specs.Champions.{champion, dealt_by, first_map, AreShares, IsServedBy, Serves};
-ghost use Rattle.cz_base.specs.declared.limits.TheConstants.{DATACENTRES};
+ghost use Rattle.toid_filter.specs.Champions.{champion, dealt_by, first_map, grown, last_share, AreShares, IsServedBy, Serves};
+ghost use Rattle.cz_base.specs.declared.limits.TheConstants.{DATACENTRES, MEMBERS};
 
 use cz_base::{DcId, NoMemory, Seq, Toid};
 use std::alloc::Global;
@@ -138,6 +138,46 @@ impl Champions {
             found = *share;
         }
         found.serves(filter, h, low, until)
+    }
+
+    /// From which number on the last share of host h deals.
+    pub fn last_start(&self, h: DcId) -> Toid
+        ensures { result ≡ (last_share self.now h).start }
+    {
+        self.last_share(h).start
+    }
+
+    /// How many filters the last share of host h has.
+    pub fn filters(&self, h: DcId) -> u32
+        ensures { result ≡ (last_share self.now h).filters }
+    {
+        self.last_share(h).filters
+    }
+
+    /// The map with one filter more for host h from number `mark` on.
+    pub fn grown(&self, h: DcId, mark: Toid) -> Result<Self, NoMemory>
+        requires host { h < length self.now }
+        requires later { (last_share self.now h).start < mark }
+        requires room { (last_share self.now h).filters < MEMBERS }
+        ensures { IfOk result (λ map. map ≡ grown self.now h mark) }
+    {
+        let share = Share {
+            start: mark,
+            filters: self.filters(h) + 1,
+        };
+        let mut map = self.copy()?;
+        map.hosts.item_mut(h.number() as usize).push(share)?;
+        Ok(map)
+    }
+
+    fn last_share(&self, h: DcId) -> Share
+        ensures { result ≡ last_share self.now h }
+    {
+        let mut found = Share::SOLE;
+        for share in self.shares(h) {
+            found = *share;
+        }
+        found
     }
 
     fn shares(&self, h: DcId) -> &[Share]

@@ -1,14 +1,18 @@
 //! One filter: what it passed, what it holds, and what it passes on.
 
-ghost use Rattle.std.specs.Prelude.{◌≡◌, [], ◌∷◌, ◌++◌, ◌+◌, ◌^◌, ◌<◌, ◌≤◌, ◌↔◌, true, false, All, drop, length, map, take, vec_capacity, vec_len, IfErr, IfOk, IsTrue, OnErr, OnOk};
+ghost use Rattle.std.specs.Prelude.{◌≡◌, [], ◌∷◌, ◌++◌, ◌+◌, ◌^◌, ◌<◌, ◌≤◌, ◌↔◌, true, false, All, drop, length, map, take, vec_capacity, vec_len, IfErr, IfOk, IsTrue, OnErr, OnOk, None, Some};
 ghost use Rattle.std.specs.List.{AllPairs};
+ghost use Rattle.std.specs.Option.{ForSome};
 ghost use Rattle.causal_deps.specs.declared.record.Item.TheVariants.{Local, External};
-ghost use Rattle.toid_filter.specs.Filters.{before_name, from_name, is_due, is_free, is_held_back, is_known, is_passed, new_filter, owns, reached_by, stands_before, with_held, Fits, Follows, IsSound, IsSteady, IsTaken};
+ghost use Rattle.toid_filter.specs.Champions.{grown};
+ghost use Rattle.toid_filter.specs.declared.filter.Mark.{Mark as MarkValue};
+ghost use Rattle.toid_filter.specs.Filters.{accept_told, accepted_by, activated, before_name, cancelled, handed_out, from_name, is_due, is_free, is_held_back, is_known, is_passed, new_filter, owns, reached_by, stands_before, with_held, Fits, Follows, IsSound, IsSteady, IsTaken};
 
 use crate::Champions;
 use crate::held::Held;
+use crate::leaving::{pass_run, take_lost, take_next};
 use causal_deps::{Counts, Draft, Item, Record};
-use cz_base::{Back, DcId, Seq, Toid};
+use cz_base::{Back, DcId, NoMemory, Seq, Toid};
 use std::alloc::Global;
 use std::marker::Model;
 use std::mem;
@@ -131,6 +135,74 @@ impl Filter {
         Ok(())
     }
 
+    /// Whether the filter accepts that from number `mark` of host h on there is one filter more. It is late exactly where it passed a
+    /// number of the host at or above the mark, and tells the greatest. Else it passes none of these any more.
+    pub fn accept(&mut self, h: DcId, mark: Toid) -> Accept
+        requires free { self.old.accepted ≡ None }
+        requires host { h < length self.old.map }
+        ensures told { result ≡ accept_told h mark self.old }
+        ensures after { self.new ≡ accepted_by h mark self.old }
+        ensures sound { IsSound self.new }
+    {
+        let passed = self.reached.get(h);
+        if passed >= 1 && passed >= mark {
+            return Accept::Late { passed };
+        }
+        self.accepted = Some(Mark {
+            host: h,
+            from: mark,
+        });
+        Accept::Accepted
+    }
+
+    /// Forgets the accepted mark, if there is one, and passes what is then next. After want of memory the filter is as before.
+    pub fn cancel(&mut self) -> Result<(), NoMemory>
+        requires { ForSome self.old.accepted (λ mark. mark.host < length self.old.map) }
+        ensures ok { OnOk result (self.new ≡ cancelled self.old) }
+        ensures err { OnErr result (self.new ≡ self.old) }
+        ensures sound { IsSound self.new }
+    {
+        let Some(mark) = self.accepted else {
+            return Ok(());
+        };
+        self.out.reserve(self.held.len())?;
+        let first = self.reached.get(mark.host) + 1;
+        let next = take_next(&mut self.held, &self.map, self.number, mark.host, first);
+        self.accepted = None;
+        if let Some(rec) = next {
+            let count = self.due_count(&rec);
+            pass_run(&mut self.held, &mut self.reached, &mut self.out, rec, count);
+        }
+        Ok(())
+    }
+
+    /// Takes the map that grew at the accepted mark, which is spent; hands out the held records that are no longer the filter's, by
+    /// host and then by number, and passes what is then next. After want of memory the filter is as before.
+    pub fn activate(&mut self, map: Champions) -> Result<Seq<Record>, NoMemory>
+        requires grown { (mark : MarkValue) × (self.old.accepted ≡ Some mark) × (map ≡ grown self.old.map mark.host mark.from) }
+        requires host { ForSome self.old.accepted (λ mark. mark.host < length self.old.map) }
+        ensures ok { OnOk result (self.new ≡ activated map self.old) }
+        ensures out { IfOk result (λ records. records ≡ handed_out map self.old) }
+        ensures err { OnErr result (self.new ≡ self.old) }
+        ensures sound { IsSound self.new }
+    {
+        let Some(mark) = self.accepted else {
+            return Ok(Seq::new(self.alloc));
+        };
+        self.out.reserve(self.held.len())?;
+        let mut lost = Vec::with_capacity(self.alloc, self.held.len())?;
+        take_lost(&mut self.held, &map, self.number, &mut lost);
+        let first = self.reached.get(mark.host) + 1;
+        let next = take_next(&mut self.held, &map, self.number, mark.host, first);
+        self.map = map;
+        self.accepted = None;
+        if let Some(rec) = next {
+            let count = self.due_count(&rec);
+            pass_run(&mut self.held, &mut self.reached, &mut self.out, rec, count);
+        }
+        Ok(Seq::from_vec(lost))
+    }
+
     /// Hands out all that is to be passed on.
     pub fn pass_on(&mut self) -> Seq<Item>
         ensures out { result ≡ self.old.out }
@@ -233,7 +305,7 @@ impl Filter {
 }
 
 /// The first held records from number t of host h on pass, where there is room for them.
-fn pass_first(
+pub(crate) fn pass_first(
     held: &mut Held,
     h: DcId,
     t: Toid,

@@ -12,7 +12,10 @@ use std::marker::Model;
 use std::ops::Bound;
 
 /// A record's name: names rise by host, and those of one host by number.
-type RecordName = (DcId, Toid);
+pub(crate) type RecordName = (DcId, Toid);
+
+/// No name stands before this one.
+pub(crate) const FIRST_NAME: RecordName = (DcId::FIRST, 0);
 
 /// Records by host and then by number, none twice. A record is found, put in or taken out in steps
 /// that grow with the logarithm of how many there are.
@@ -42,6 +45,13 @@ impl Held {
         Held {
             by_name: BTreeMap::new(alloc),
         }
+    }
+
+    /// How many records are held.
+    pub fn len(&self) -> usize
+        ensures { result ≡ length self.now }
+    {
+        self.by_name.len()
     }
 
     /// Whether number t of host h is held.

@@ -26,6 +26,7 @@ mod champions;
 mod filter;
 mod held;
 mod laws;
+mod leaving;
 
 pub use champions::{Champions, Share};
 pub use filter::{Accept, Filter, Mark, Verdict};
