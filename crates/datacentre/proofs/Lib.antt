@@ -7,3 +7,4 @@ pub mod LiveLemmas
 pub mod LeftLemmas
 pub mod FloorTurns
 pub mod PostTurns
+pub mod WholeJoins

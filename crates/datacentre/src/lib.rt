@@ -8,6 +8,7 @@
 #![tactic(auto)]
 
 mod datacentre;
+mod joining;
 mod leaving;
 mod opening;
 mod parts;
