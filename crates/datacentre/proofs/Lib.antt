@@ -8,3 +8,4 @@ pub mod LeftLemmas
 pub mod FloorTurns
 pub mod PostTurns
 pub mod WholeJoins
+pub mod WholeMarks

@@ -10,6 +10,7 @@
 mod datacentre;
 mod joining;
 mod leaving;
+mod marking;
 mod opening;
 mod parts;
 mod taking;

@@ -44,7 +44,11 @@ impl Parts {
             Step::AddQueue { .. } => self.add_queue(),
             Step::AddSender { .. } => self.add_sender(),
             Step::AddReceiver { .. } => self.add_receiver(),
-            _ => unreachable!(),
+            Step::Announce { h, t, .. } => Ok(self.announce(*h, *t)),
+            Step::Mark { .. } => self.mark(),
+            Step::Send { .. } | Step::Deliver { .. } | Step::Lose { .. } | Step::Copy { .. } => {
+                unreachable!()
+            }
         }
     }
 
