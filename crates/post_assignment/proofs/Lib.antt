@@ -3,3 +3,4 @@ pub mod SplitLemmas
 pub mod ArrivalLemmas
 pub mod TiedLemmas
 pub mod AppendLemmas
+pub mod BoundLemmas

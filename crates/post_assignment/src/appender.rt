@@ -75,6 +75,13 @@ impl<T> Appender<T> {
         &self.maintainer
     }
 
+    /// What waits.
+    pub fn waiting(&self) -> &WaitList<T>
+        ensures { result.now.waiting ≡ self.now.waiting }
+    {
+        &self.waiting
+    }
+
     /// The next own position: the least one that is not below the mark.
     pub fn next_lid(&self) -> Lid
         requires { self.now.maintainer.number < (last_epoch self.now.maintainer.epochs).members }

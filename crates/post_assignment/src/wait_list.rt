@@ -6,12 +6,14 @@ ghost use Rattle.std.specs.Ordering.{nat_cmp, ordering_then};
 ghost use Rattle.std.specs.List.Sorted.{IsStrictlySortedBy};
 ghost use Rattle.std.specs.BTreeMap.{IsOrdered};
 ghost use Rattle.std.specs.Map.{keys_of};
+ghost use Rattle.std.specs.Map.Iter.{ShowsInOrder, deref};
 ghost use Rattle.std.specs.BinaryHeap.{KeepsHeap, heap_capacity, heap_items, heap_len};
 ghost use Rattle.post_assignment.specs.Waiting.{IsSplit, first_below, without_first_below};
 
 use cz_base::{Back, Lid, NoMemory};
 use std::alloc::Global;
 use std::cmp::Reverse;
+use std::collections::btree_map::Values;
 use std::collections::{BTreeMap, BTreeSet, BinaryHeap};
 use std::marker::Model;
 
@@ -71,6 +73,14 @@ impl<T> WaitList<T> {
         ensures { result ≡ length self.now.waiting }
     {
         self.by_arrival.len()
+    }
+
+    /// Goes over them in order of arrival.
+    pub fn values(&self) -> Values<'_, u64, Waiting<T>>
+        ensures values { result ≡ self.now.waiting }
+        ensures runs { ShowsInOrder (deref {X = Waiting T}) }
+    {
+        self.by_arrival.values()
     }
 
     /// A value waits last. Without memory it comes back.

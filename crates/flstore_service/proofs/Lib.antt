@@ -1,0 +1,4 @@
+-- What the service stands on.
+pub mod TurnLemmas
+pub mod RoomLemmas
+pub mod ServedLemmas

@@ -1,0 +1,4 @@
+-- Definitions of scripts of a log by itself, and of their runs.
+pub mod Fits
+pub mod Running
+pub mod Sound
