@@ -2,3 +2,4 @@
 pub mod TurnLemmas
 pub mod RoomLemmas
 pub mod ServedLemmas
+pub mod ReadLemmas

@@ -2,3 +2,5 @@
 pub mod Fits
 pub mod Running
 pub mod Sound
+pub mod Keywords
+pub mod Meaning

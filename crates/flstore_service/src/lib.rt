@@ -14,10 +14,14 @@
 //! **Tests.** `test_flstore` has rows of scripts with their runs and texts, and of lines that are refused.
 #![tactic(auto)]
 
+mod keyword;
 mod listing;
+mod progress;
+mod reading;
 mod run;
 mod script;
 mod service;
 
+pub use reading::read_flstore;
 pub use run::{FlKept, FlLine, FlOutcome, FlPlace, FlRun, flstore};
 pub use script::{FlScript, FlStep};
