@@ -1,5 +1,5 @@
 -- What the lines of a script keep: its numbers are in their ranges.
-use Rattle.std.proofs.Common.{◌≡◌, ℕ, ◌+◌, ◌<◌, ◌≤◌, List, [], ◌∷◌, ◌++◌, length, cond, Bool, ◌^◌, true, false, refl, ap, sym, ◌∙◌, subst, inl, inr, arith, lit<}
+use Rattle.std.proofs.Common.{◌≡◌, ℕ, ◌+◌, ◌<◌, ◌≤◌, List, [], ◌∷◌, ◌++◌, length, cond, Bool, ◌^◌, true, false, refl, ap, sym, ◌∙◌, subst, arith, lit<}
 use Rattle.std.specs.Prelude.{IfOk, Ok, Err, Result, Option, Some, None, nat_le, nat_lt, not, ◌==◌}
 use Rattle.std.specs.List.{All, list_all, list_any}
 use Rattle.std.proofs.lemmas.Bool.{leb-false, not-false}
@@ -7,16 +7,15 @@ use Rattle.std.proofs.lemmas.Bool.Decides.{nat_tests}
 use Rattle.std.proofs.lemmas.List.Elements.{All-nil, All-push}
 use Rattle.std.proofs.lemmas.List.Sums.{sum_by_push}
 use Rattle.flstore_rounds.proofs.EpochLemmas.{length_push}
-use Rattle.cz_base.specs.Text.{IsBody}
 use Rattle.cz_base.specs.declared.limits.TheConstants.{MEMBERS, STEPS, ROUND}
 use Rattle.script_text.specs.declared.fault.Cause.{Cause}
 use Rattle.script_text.specs.declared.fault.Cause.TheVariants.{BadByte, BadSpacing, AfterEnd, OutOfPlace, OutOfRange, TooMany, TooShort, WrongWords}
 use Rattle.script_text.specs.declared.fault.ScriptFault.{ScriptFault}
 use Rattle.script_text.specs.declared.fault.ScriptFault.TheVariants.{Bad}
 use Rattle.script_text.specs.Words.{words, is_line_byte, is_empty_word}
-use Rattle.script_text.specs.Reading.{◌>>=◌, greatest_number, number_at, number_below_at, body_at}
+use Rattle.script_text.specs.Reading.{greatest_number, number_at, number_below_at, body_at}
 use Rattle.script_text.specs.Meaning.{is_passed_over, next_number, told}
-use Rattle.script_text.proofs.Going.{bind_ok, chosen, guard_ok, okay-same, pass_ok}
+use Rattle.script_text.proofs.Going.{bind_ok, guard_ok, okay-same, pass_ok}
 use Rattle.script_text.proofs.Kept.{body_takes}
 use Rattle.script_text.proofs.Spelling.{number_spells}
 use Rattle.flstore_service.specs.declared.keyword.Keyword.{Keyword}
@@ -69,15 +68,17 @@ unfolding with_step
 step_keeps said after x n round some counted members few each fits same =
     let form = guard_ok (nat_le STEPS (length said.steps)) TooMany (Ok (record said { steps = said.steps ++ x ∷ [] })) after same in
     let is : record said { steps = said.steps ++ x ∷ [] } ≡ after = okay-same (record said { steps = said.steps ++ x ∷ [] }) after form.1 in
-    let short : length said.steps < STEPS = leb-false STEPS (length said.steps) form.0 in
-    (subst IsSaid is (record {
-      round = round;
-      some = some;
-      counted = omega (arith, counted, members, sum_by_push (λ (y : FlStep). cond (adds_maintainer y) 1 0) said.steps x);
-      few = few;
-      steps = omega (arith, short, length_push said.steps x);
-      each = All-push FitsFlStep said.steps x each fits
-    }), sym (ap (λ (p : Progress). p.section) is))
+    let short : length said.steps < STEPS = leb-false STEPS (length said.steps) form.0 in (
+      subst IsSaid is (record {
+        round = round;
+        some = some;
+        counted = omega (arith, counted, members, sum_by_push (λ (y : FlStep). cond (adds_maintainer y) 1 0) said.steps x);
+        few = few;
+        steps = omega (arith, short, length_push said.steps x);
+        each = All-push FitsFlStep said.steps x each fits;
+      }),
+      sym (ap (λ (p : Progress). p.section) is),
+    )
 
 -- a step that adds no maintainer
 plain_keeps : (said after : Progress) (x : FlStep) → adds_maintainer x ≡ false → IsSaid said → FitsFlStep x → with_step said x ≡ Ok after → IsSaid after × (after.section ≡ said.section)
@@ -160,7 +161,7 @@ maintainers_keeps said after rest none round same =
       counted = omega (arith, ap additions none);
       few = spelled.high;
       steps = omega (arith, ap (λ (xs : List FlStep). length xs) none);
-      each = subst (All FitsFlStep) (sym none) (All-nil FitsFlStep)
+      each = subst (All FitsFlStep) (sym none) (All-nil FitsFlStep);
     })
 
 -- a section is reached by its name

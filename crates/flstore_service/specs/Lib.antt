@@ -4,3 +4,4 @@ pub mod Running
 pub mod Sound
 pub mod Keywords
 pub mod Meaning
+pub mod Text

@@ -21,7 +21,9 @@ mod reading;
 mod run;
 mod script;
 mod service;
+mod text;
 
 pub use reading::read_flstore;
 pub use run::{FlKept, FlLine, FlOutcome, FlPlace, FlRun, flstore};
 pub use script::{FlScript, FlStep};
+pub use text::fl_text;
