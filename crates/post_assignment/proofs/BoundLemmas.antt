@@ -1,20 +1,20 @@
 -- How far the positions go that an append gives, and what it keeps.
-use Rattle.std.proofs.Common.{◌≡◌, ◌⊎◌, ℕ, zero, suc, ◌+◌, ◌-◌, ◌*◌, ◌/◌, ◌%◌, ◌<◌, ◌≤◌, ◌^◌, max, cond, eqb, List, [], ◌∷◌, length, Option, Some, None, refl, ap, sym, ◌∙◌, subst, inl, inr, arith}
+use Rattle.std.proofs.Common.{◌≡◌, ℕ, zero, suc, ◌+◌, ◌-◌, ◌*◌, ◌/◌, ◌%◌, ◌<◌, ◌≤◌, ◌^◌, eqb, List, length, Option, Some, None, refl, ap, ◌∙◌, inl, inr, arith}
 use Rattle.std.specs.List.{All}
-use Rattle.std.proofs.lemmas.Bool.{cases_eq, cases_lt, cond-true, cond-false, eq-eqb, ne_eqb}
+use Rattle.std.proofs.lemmas.Bool.{cases_eq, cond-true, cond-false, eq-eqb, ne_eqb}
 use Rattle.std.proofs.lemmas.List.Elements.{All-cons, All-head, All-nil, All-tail, All-weaker}
 use Rattle.std.proofs.Math.Nat.{mod-lt}
 use Rattle.flstore_rounds.specs.declared.epochs.Epoch.{Epoch}
 use Rattle.flstore_rounds.specs.Epochs.{EpochList, IsEpochList, epoch_at, first_epoch, last_epoch, owner, owner_in}
 use Rattle.flstore_rounds.proofs.EpochLemmas.{last_few, last_from-at, owner_is}
 use Rattle.flstore_rounds.proofs.TurnLemmas.{short_wait, wait_for}
-use Rattle.maintainer.specs.Maintainers.{MaintainerState, IsFilled, mark_of, placed, times_filled}
+use Rattle.maintainer.specs.Maintainers.{MaintainerState, IsFilled, mark_of, placed}
 use Rattle.maintainer.proofs.LawLemmas.{placed_filled}
 use Rattle.maintainer.proofs.MarkOf.{is_mark}
 use Rattle.post_assignment.proofs.AppendLemmas.{taken_length}
 use Rattle.post_assignment.specs.declared.wait_list.Waiting.{Waiting}
 use Rattle.post_assignment.specs.Waiting.{first_below, without_first_below}
-use Rattle.post_assignment.specs.Appending.{AppenderState, Released, after_lid, appended, at_rest, next_lid, next_own, on_first, own_from, released}
+use Rattle.post_assignment.specs.Appending.{Released, after_lid, at_rest, next_lid, next_own, on_first, own_from, released}
 
 -- the first own position is at or below each that is own
 
@@ -43,12 +43,15 @@ own_near t m p h member from =
     let some : 0 < t.round = omega (arith, h.round_from) in
     let is = wait_for t.round e.members m x some member in
     let short : t.round * ((m + e.members - x / t.round % e.members) % e.members) < 2 ^ 14 =
-        short_wait t.round e.members ((m + e.members - x / t.round % e.members) % e.members) h.round_to (last_few t h) (mod-lt (m + e.members - x / t.round % e.members) (omega (arith, member))) in
+    short_wait t.round e.members ((m + e.members - x / t.round % e.members) % e.members) h.round_to (last_few t h) (mod-lt (m + e.members - x / t.round % e.members) (omega (arith, member))) in
     let here : (p + wait) - e.start ≡ x + wait = omega (arith, from) in
     let dealt : owner t (p + wait) ≡ owner_in t.round (epoch_at t.list at) (p + wait) =
-        owner_is t at (p + wait) h (omega (arith, h.some)) (omega (arith, from, ap (λ (n : Epoch). n.start) last)) (λ more. absurd (omega (arith, more))) in
-    (p + wait, omega arith, omega (arith, short),
-    dealt ∙ ap (λ n. owner_in t.round n (p + wait)) last ∙ ap (λ y. (y / t.round) % e.members) here ∙ is.own)
+    owner_is t at (p + wait) h (omega (arith, h.some)) (omega (arith, from, ap (λ (n : Epoch). n.start) last)) (λ more. absurd (omega (arith, more))) in (
+      p + wait,
+      omega arith,
+      omega (arith, short),
+      dealt ∙ ap (λ n. owner_in t.round n (p + wait)) last ∙ ap (λ y. (y / t.round) % e.members) here ∙ is.own,
+    )
 
 module _ {T : Type 0} where
   -- the mark is not far above what is filled
@@ -73,13 +76,13 @@ module _ {T : Type 0} where
 
   -- what each value that goes in keeps
   pub released_keeps : (P : MaintainerState T → List (Waiting T) → Type 0)
-    → ((m : MaintainerState T) (ws : List (Waiting T)) (w : Waiting T) → first_below (next_lid m) ws ≡ Some w → P m ws → P (placed m (next_lid m) w.value) (without_first_below (next_lid m) ws))
-    → (n : ℕ) (m : MaintainerState T) (ws : List (Waiting T)) → P m ws → P (released n m ws).state.maintainer (released n m ws).state.waiting
+      → ((m : MaintainerState T) (ws : List (Waiting T)) (w : Waiting T) → first_below (next_lid m) ws ≡ Some w → P m ws → P (placed m (next_lid m) w.value) (without_first_below (next_lid m) ws))
+      → (n : ℕ) (m : MaintainerState T) (ws : List (Waiting T)) → P m ws → P (released n m ws).state.maintainer (released n m ws).state.waiting
   released_keeps P step zero m ws has = has
   released_keeps P step (suc n) m ws has = by_first (first_below (next_lid m) ws) refl (released_keeps P step n)
     where
       by_first : (o : Option (Waiting T)) → first_below (next_lid m) ws ≡ o → ((n' : MaintainerState T) (vs : List (Waiting T)) → P n' vs → P (released n n' vs).state.maintainer (released n n' vs).state.waiting)
-        → P (on_first o (at_rest m ws) (λ w. after_lid (next_lid m) (released n (placed m (next_lid m) w.value) (without_first_below (next_lid m) ws)))).state.maintainer (on_first o (at_rest m ws) (λ w. after_lid (next_lid m) (released n (placed m (next_lid m) w.value) (without_first_below (next_lid m) ws)))).state.waiting
+          → P (on_first o (at_rest m ws) (λ w. after_lid (next_lid m) (released n (placed m (next_lid m) w.value) (without_first_below (next_lid m) ws)))).state.maintainer (on_first o (at_rest m ws) (λ w. after_lid (next_lid m) (released n (placed m (next_lid m) w.value) (without_first_below (next_lid m) ws)))).state.waiting
       by_first None is rest = has
       by_first (Some w) is rest = rest (placed m (next_lid m) w.value) (without_first_below (next_lid m) ws) (step m ws w is has)
 
@@ -96,12 +99,12 @@ module _ {T : Type 0} where
       near = next_lid_most m b h member from below
 
       by_first : (o : Option (Waiting T)) → ((v : T) → AreNear (b + 2 ^ 15) n (released n (placed m (next_lid m) v) (without_first_below (next_lid m) ws)))
-        → AreNear b (suc n) (on_first o (at_rest m ws) (λ w. after_lid (next_lid m) (released n (placed m (next_lid m) w.value) (without_first_below (next_lid m) ws))))
+          → AreNear b (suc n) (on_first o (at_rest m ws) (λ w. after_lid (next_lid m) (released n (placed m (next_lid m) w.value) (without_first_below (next_lid m) ws))))
       by_first None rest = record { lids = All-nil (λ (lid : ℕ). lid ≤ b + suc n * 2 ^ 15); filled = λ p full. omega (arith, below p full) }
       by_first (Some w) rest = let after = rest w.value in record {
         lids = All-cons (λ (lid : ℕ). lid ≤ b + suc n * 2 ^ 15) (next_lid m) (released n (placed m (next_lid m) w.value) (without_first_below (next_lid m) ws)).lids (omega (arith, near))
             (All-weaker (λ (lid : ℕ). lid ≤ b + 2 ^ 15 + n * 2 ^ 15) (λ (lid : ℕ). lid ≤ b + suc n * 2 ^ 15) (λ lid le. omega (arith, le)) (released n (placed m (next_lid m) w.value) (without_first_below (next_lid m) ws)).lids after.lids);
-        filled = λ p full. omega (arith, after.filled p full)
+        filled = λ p full. omega (arith, after.filled p full);
       }
 
   -- all that is filled after an append was filled before or got its position then
@@ -110,9 +113,9 @@ module _ {T : Type 0} where
   released_within (suc n) m ws c below lids p full = by_first (first_below (next_lid m) ws) (λ v. released_within n (placed m (next_lid m) v) (without_first_below (next_lid m) ws) c) lids full
     where
       by_first : (o : Option (Waiting T))
-        → ((v : T) → ((q : ℕ) → IsFilled (placed m (next_lid m) v) q → q ≤ c) → All (λ lid. lid ≤ c) (released n (placed m (next_lid m) v) (without_first_below (next_lid m) ws)).lids → (q : ℕ) → IsFilled (released n (placed m (next_lid m) v) (without_first_below (next_lid m) ws)).state.maintainer q → q ≤ c)
-        → All (λ lid. lid ≤ c) (on_first o (at_rest m ws) (λ w. after_lid (next_lid m) (released n (placed m (next_lid m) w.value) (without_first_below (next_lid m) ws)))).lids
-        → IsFilled (on_first o (at_rest m ws) (λ w. after_lid (next_lid m) (released n (placed m (next_lid m) w.value) (without_first_below (next_lid m) ws)))).state.maintainer p → p ≤ c
+          → ((v : T) → ((q : ℕ) → IsFilled (placed m (next_lid m) v) q → q ≤ c) → All (λ lid. lid ≤ c) (released n (placed m (next_lid m) v) (without_first_below (next_lid m) ws)).lids → (q : ℕ) → IsFilled (released n (placed m (next_lid m) v) (without_first_below (next_lid m) ws)).state.maintainer q → q ≤ c)
+          → All (λ lid. lid ≤ c) (on_first o (at_rest m ws) (λ w. after_lid (next_lid m) (released n (placed m (next_lid m) w.value) (without_first_below (next_lid m) ws)))).lids
+          → IsFilled (on_first o (at_rest m ws) (λ w. after_lid (next_lid m) (released n (placed m (next_lid m) w.value) (without_first_below (next_lid m) ws)))).state.maintainer p → p ≤ c
       by_first None rest all here = below p here
       by_first (Some w) rest all here =
           let more : List ℕ = (released n (placed m (next_lid m) w.value) (without_first_below (next_lid m) ws)).lids in

@@ -4,3 +4,4 @@ pub mod ArrivalLemmas
 pub mod TiedLemmas
 pub mod AppendLemmas
 pub mod BoundLemmas
+pub mod LawLemmas

@@ -1,5 +1,5 @@
 -- Appending: which values get positions, in which order, and where.
-use Rattle.std.specs.Prelude.{ℕ, zero, suc, ◌+◌, ◌<◌, ◌==◌, ◌^◌, if◌then◌else◌, List, [], ◌∷◌, ◌++◌, length, Option, Some, None, All, refl}
+use Rattle.std.specs.Prelude.{◌≡◌, ◌≤◌, ℕ, zero, suc, ◌+◌, ◌<◌, ◌==◌, ◌^◌, Bool, count_by, if◌then◌else◌, List, [], ◌∷◌, ◌++◌, length, Option, Some, None, All, refl}
 use Rattle.std.specs.Coded.{Coded, code_by, coded×, coded_list}
 use Rattle.flstore_rounds.specs.Epochs.{EpochList, last_epoch, owner}
 use Rattle.maintainer.specs.Maintainers.{MaintainerState, mark_of, placed, state_code}
@@ -66,3 +66,21 @@ module _ {T : Type 0} where
     pub member : s.maintainer.number < (last_epoch s.maintainer.epochs).members
     pub first : next_lid s.maintainer < NUMBERS_END
     pub others : All (λ lid. lid < NUMBERS_END) (appended s value).lids
+
+  -- how often a value passes a test, among those that stand and those that wait
+  abbrev pub times_of : (T → Bool) → AppenderState T → ℕ
+  times_of test s = count_by (λ e. test e.value) s.maintainer.entries + count_by (λ w. test w.value) s.waiting
+
+  -- where each value has a rank: what stands is above it, and what waits has a bound that is not below it
+  pub record StandsAbove (rank : T → ℕ) (s : AppenderState T) : Type 0 where
+    pub placed : All (λ e. rank e.value < e.lid) s.maintainer.entries
+    pub waits : All (λ w. rank w.value ≤ w.bound) s.waiting
+
+  -- w is the first of those that wait with a bound below the position: before are those before it, and after it those after
+  pub record IsFirst (lid : ℕ) (ws : List (Waiting T)) (w : Waiting T) : Type 0 where
+    pub before : List (Waiting T)
+    pub after : List (Waiting T)
+    pub parts : ws ≡ before ++ w ∷ after
+    pub later : All (λ v. lid ≤ v.bound) before
+    pub below : w.bound < lid
+    pub rest : without_first_below lid ws ≡ before ++ after

@@ -9,7 +9,8 @@
 //! arrival. `specs/Appending` says on these lists which values go in, in which order, and where.
 //!
 //! To the layers above: after each call the state is that of the definition, and after want of memory it is as
-//! before.
+//! before. Each value stands or waits once, what stands is above its bound, and of those that may go in the first to
+//! come does (`laws`).
 //!
 //! Decided: what waits is found by arrival and by bound, and what may go in next is a heap by arrival, so that an
 //! append takes steps that grow with what it releases, times the logarithm of what waits. Memory for all that an
@@ -19,6 +20,7 @@
 #![tactic(auto)]
 
 mod appender;
+pub mod laws;
 mod wait_list;
 
 pub use appender::{After, Appender, Here};
