@@ -3,3 +3,4 @@ pub mod TurnLemmas
 pub mod RoomLemmas
 pub mod ServedLemmas
 pub mod ReadLemmas
+pub mod OnceLemmas

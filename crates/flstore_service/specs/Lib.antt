@@ -5,3 +5,4 @@ pub mod Sound
 pub mod Keywords
 pub mod Meaning
 pub mod Text
+pub mod Laws

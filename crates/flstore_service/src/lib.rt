@@ -15,6 +15,7 @@
 #![tactic(auto)]
 
 mod keyword;
+pub mod laws;
 mod listing;
 mod progress;
 mod reading;

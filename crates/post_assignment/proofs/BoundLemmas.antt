@@ -1,11 +1,11 @@
 -- How far the positions go that an append gives, and what it keeps.
-use Rattle.std.proofs.Common.{◌≡◌, ℕ, zero, suc, ◌+◌, ◌-◌, ◌*◌, ◌/◌, ◌%◌, ◌<◌, ◌≤◌, ◌^◌, eqb, List, length, Option, Some, None, refl, ap, ◌∙◌, inl, inr, arith}
+use Rattle.std.proofs.Common.{sym, subst, max, ◌≡◌, ℕ, zero, suc, ◌+◌, ◌-◌, ◌*◌, ◌/◌, ◌%◌, ◌<◌, ◌≤◌, ◌^◌, eqb, List, length, Option, Some, None, refl, ap, ◌∙◌, inl, inr, arith}
 use Rattle.std.specs.List.{All}
-use Rattle.std.proofs.lemmas.Bool.{cases_eq, cond-true, cond-false, eq-eqb, ne_eqb}
-use Rattle.std.proofs.lemmas.List.Elements.{All-cons, All-head, All-nil, All-tail, All-weaker}
+use Rattle.std.proofs.lemmas.Bool.{cond_both, cases_eq, cond-true, cond-false, eq-eqb, ne_eqb}
+use Rattle.std.proofs.lemmas.List.Elements.{All-cons, All-get_or, All-head, All-nil, All-tail, All-weaker}
 use Rattle.std.proofs.Math.Nat.{mod-lt}
 use Rattle.flstore_rounds.specs.declared.epochs.Epoch.{Epoch}
-use Rattle.flstore_rounds.specs.Epochs.{EpochList, IsEpochList, epoch_at, first_epoch, last_epoch, owner, owner_in}
+use Rattle.flstore_rounds.specs.Epochs.{EpochList, IsEpochList, IsNextOwn, epoch_at, first_epoch, last_epoch, owner, owner_in}
 use Rattle.flstore_rounds.proofs.EpochLemmas.{last_few, last_from-at, owner_is}
 use Rattle.flstore_rounds.proofs.TurnLemmas.{short_wait, wait_for}
 use Rattle.maintainer.specs.Maintainers.{MaintainerState, IsFilled, mark_of, placed}
@@ -31,6 +31,14 @@ pub next_own_most : (t : EpochList) (m p q : ℕ) → p ≤ q → owner t q ≡ 
 unfolding next_own
 next_own_most t m p q le own = own_from_most t m (2 ^ 49) p q le own
 
+own_from_above : (t : EpochList) (m n p : ℕ) → p ≤ own_from t m n p
+own_from_above t m zero p = omega arith
+own_from_above t m (suc n) p = cond_both (eqb (owner t p) m) p (own_from t m n (p + 1)) (λ q. p ≤ q) (λ _. omega arith) (λ _. omega (arith, own_from_above t m n (p + 1)))
+
+pub next_own_above : (t : EpochList) (m p : ℕ) → p ≤ next_own t m p
+unfolding next_own
+next_own_above t m p = own_from_above t m (2 ^ 49) p
+
 -- from the last epoch's start on, each member owns a position within few
 
 pub own_near : (t : EpochList) (m p : ℕ) → IsEpochList t → m < (last_epoch t).members → (last_epoch t).start ≤ p → (q : ℕ) × (p ≤ q) × (q < p + 2 ^ 14) × (owner t q ≡ m)
@@ -52,6 +60,31 @@ own_near t m p h member from =
       omega (arith, short),
       dealt ∙ ap (λ n. owner_in t.round n (p + wait)) last ∙ ap (λ y. (y / t.round) % e.members) here ∙ is.own,
     )
+
+-- and it is the next own one, where there is one
+
+own_from_next : (t : EpochList) (m n p q : ℕ) → p ≤ q → q < p + n → owner t q ≡ m → IsNextOwn t m p (own_from t m n p)
+own_from_next t m zero p q le near own = absurd (omega (arith, le, near))
+own_from_next t m (suc n) p q le near own = elim (cases_eq (owner t p) m) [
+  | inl same ↦ subst (IsNextOwn t m p) (sym (cond-true (eqb (owner t p) m) p (own_from t m n (p + 1)) (eq-eqb (owner t p) m same))) (record { above = omega arith; own = same; least = λ k from below. absurd (omega (arith, from, below)) })
+  | inr other ↦
+      let apart : p < q = elim (cases_eq p q) [ inl is ↦ absurd (other (ap (owner t) is ∙ own)) | inr is ↦ omega (arith, le, is) ] in
+      let rest = own_from_next t m n (p + 1) q (omega (arith, apart)) (omega (arith, near)) own in
+      subst (IsNextOwn t m p) (sym (cond-false (eqb (owner t p) m) p (own_from t m n (p + 1)) (ne_eqb (owner t p) m other))) (record {
+        above = omega (arith, rest.above);
+        own = rest.own;
+        least = λ k from below is. elim (cases_eq p k) [ inl here ↦ other (ap (owner t) here ∙ is) | inr later ↦ rest.least k (omega (arith, from, later)) below is ]
+      })
+]
+
+pub next_own_next : (t : EpochList) (m p : ℕ) → IsEpochList t → m < (last_epoch t).members → IsNextOwn t m p (next_own t m p)
+unfolding next_own
+next_own_next t m p h member =
+    let at : ℕ = length t.list - 1 in
+    let last : epoch_at t.list at ≡ last_epoch t = last_from-at first_epoch first_epoch t.list at (omega (arith, h.some)) in
+    let small : (epoch_at t.list at).start < 2 ^ 48 = All-get_or (λ (e : Epoch). e.start < 2 ^ 48) t.list at first_epoch (omega (arith, h.some)) h.lids in
+    let near = own_near t m (max p (last_epoch t).start) h member (omega arith) in
+    own_from_next t m (2 ^ 49) p near.0 (omega (arith, near.1)) (omega (arith, near.2, small, ap (λ (e : Epoch). e.start) last)) near.3
 
 module _ {T : Type 0} where
   -- the mark is not far above what is filled
@@ -131,3 +164,14 @@ module _ {T : Type 0} where
 
   pub released_epochs : (n : ℕ) (m : MaintainerState T) (ws : List (Waiting T)) → (released n m ws).state.maintainer.epochs ≡ m.epochs
   released_epochs n m ws = released_keeps (λ x _. x.epochs ≡ m.epochs) (λ x vs w is same. same) n m ws refl
+
+  -- a next own position is at or above the mark, which is 1 at least
+
+  pub next_lid_first : (m : MaintainerState T) → 1 ≤ next_lid m
+  next_lid_first m = omega (arith, next_own_above m.epochs m.number (mark_of m), mark_first m)
+    where
+      mark_first : (n : MaintainerState T) → 1 ≤ mark_of n
+      mark_first n = elim ((is_mark n).reached) [
+        | inl none ↦ omega (arith, none)
+        | inr at ↦ omega (arith, at.1)
+      ]
