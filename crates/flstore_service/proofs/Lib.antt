@@ -4,3 +4,4 @@ pub mod RoomLemmas
 pub mod ServedLemmas
 pub mod ReadLemmas
 pub mod OnceLemmas
+pub mod TruthLemmas

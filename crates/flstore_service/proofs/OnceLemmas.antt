@@ -1,13 +1,13 @@
 -- Each value stands or waits once, and what stands is above its bound.
-use Rattle.std.proofs.Common.{◌≡◌, ℕ, zero, suc, ◌+◌, ◌<◌, ◌≤◌, cond, ltb, leb, eqb, ◌&&◌, Bool, true, false, slice_set, slice_get, get_or, map, List, [], ◌∷◌, ◌++◌, length, Option, Some, None, refl, ap, sym, ◌∙◌, subst, inl, inr, arith, nat_lt, if◌then◌else◌}
+use Rattle.std.proofs.Common.{◌≡◌, ℕ, zero, suc, ◌+◌, ◌<◌, ◌≤◌, cond, ltb, leb, eqb, ◌&&◌, slice_set, slice_get, get_or, map, List, [], ◌∷◌, length, Option, Some, None, refl, ap, sym, ◌∙◌, subst, inl, inr, arith, nat_lt, if◌then◌else◌}
 use Rattle.std.specs.List.{All, sum_by}
-use Rattle.std.proofs.lemmas.Bool.{cases_eq, cases_lt, cond-true, cond-false, cond_both, eq-eqb, ne_eqb, le-leb, lt-leb, ltb-true, ltb-false, and_left, and_right, and_from}
+use Rattle.std.proofs.lemmas.Bool.{cases_eq, cases_lt, cond-true, cond-false, cond_both, eq-eqb, ne_eqb, le-leb, lt-leb, ltb-true, and_right, and_from}
 use Rattle.std.proofs.lemmas.List.Elements.{All-cons, All-head, All-nil, All-push, All-set, All-tail}
 use Rattle.std.proofs.lemmas.List.Sums.{sum_by-cons, sum_by-set, sum_by_push}
 use Rattle.std.proofs.lemmas.Option.{slice_get_within, slice_get-get_or, same_Some}
 use Rattle.flstore_rounds.specs.Epochs.{EpochList, owner}
 use Rattle.flstore_rounds.specs.Heads.{Pair, head, joined}
-use Rattle.post_assignment.specs.Appending.{AppenderState, StandsAbove, appended, kept, next_lid, times_of}
+use Rattle.post_assignment.specs.Appending.{StandsAbove, appended, kept, next_lid, times_of}
 use Rattle.post_assignment.proofs.BoundLemmas.{next_lid_first}
 use Rattle.post_assignment.proofs.LawLemmas.{appended_above, appended_times, kept_above, kept_times}
 use Rattle.flstore_service.specs.declared.run.FlOutcome.TheVariants.{Beyond, EpochAdded, Heard, HeadAt, Late}
@@ -16,7 +16,7 @@ use Rattle.flstore_service.specs.declared.script.FlStep.TheVariants as step
 use Rattle.flstore_service.specs.declared.service.Member.{Member}
 use Rattle.flstore_service.specs.declared.service.Service.{Service}
 use Rattle.flstore_service.specs.declared.service.Submission.{Submission}
-use Rattle.flstore_service.specs.Running.{Turned, add_maintainer_turn, after_turn, fresh, fresh_upto, gossip_turn, grown, head_turn, heard, kept_at, late_bound, next_epochs, own_vector, owned, put_in, put_turn, quiet, read_turn, service_after, shown_by, start, submission, told_epochs, turn, where_some, with_member}
+use Rattle.flstore_service.specs.Running.{Turned, fresh, fresh_upto, grown, heard, kept_at, late_bound, next_epochs, own_vector, owned, put_in, quiet, service_after, shown_by, start, submission, told_epochs, turn, where_some, with_member}
 use Rattle.flstore_service.specs.Laws.{AreAbove, all_times, has_number, once_upto}
 
 -- what every step keeps holds after all of them
@@ -74,13 +74,21 @@ once_more count n = elim (cases_eq (count + 1) n) [
       let low : 1 ≤ n = omega (arith, same) in
       let within : n ≤ count + 1 = omega (arith, same) in
       let past : count < n = omega (arith, same) in
-      omega (arith, cond-true {A = ℕ} (leb 1 n && leb n (count + 1)) 1 0 (and_from (leb 1 n) (leb n (count + 1)) (le-leb 1 n low) (le-leb n (count + 1) within)),
-        cond-false {A = ℕ} (leb 1 n && leb n count) 1 0 (and_right (leb 1 n) (leb n count) (lt-leb n count past)), cond-true {A = ℕ} (eqb (count + 1) n) 1 0 (eq-eqb (count + 1) n same))
+      omega (
+        arith,
+        cond-true {A = ℕ} (leb 1 n && leb n (count + 1)) 1 0 (and_from (leb 1 n) (leb n (count + 1)) (le-leb 1 n low) (le-leb n (count + 1) within)),
+        cond-false {A = ℕ} (leb 1 n && leb n count) 1 0 (and_right (leb 1 n) (leb n count) (lt-leb n count past)),
+        cond-true {A = ℕ} (eqb (count + 1) n) 1 0 (eq-eqb (count + 1) n same),
+      )
   | inr other ↦ elim (cases_lt count n) [
     | inl past ↦
         let beyond : count + 1 < n = omega (arith, past, other) in
-        omega (arith, cond-false {A = ℕ} (leb 1 n && leb n (count + 1)) 1 0 (and_right (leb 1 n) (leb n (count + 1)) (lt-leb n (count + 1) beyond)),
-          cond-false {A = ℕ} (leb 1 n && leb n count) 1 0 (and_right (leb 1 n) (leb n count) (lt-leb n count past)), cond-false {A = ℕ} (eqb (count + 1) n) 1 0 (ne_eqb (count + 1) n other))
+        omega (
+          arith,
+          cond-false {A = ℕ} (leb 1 n && leb n (count + 1)) 1 0 (and_right (leb 1 n) (leb n (count + 1)) (lt-leb n (count + 1) beyond)),
+          cond-false {A = ℕ} (leb 1 n && leb n count) 1 0 (and_right (leb 1 n) (leb n count) (lt-leb n count past)),
+          cond-false {A = ℕ} (eqb (count + 1) n) 1 0 (ne_eqb (count + 1) n other),
+        )
     | inr within ↦
         let also : n ≤ count + 1 = omega (arith, within) in
         let same : (leb 1 n && leb n (count + 1)) ≡ (leb 1 n && leb n count) = ap (λ b. leb 1 n && b) (le-leb n (count + 1) also ∙ sym (le-leb n count within)) in
@@ -100,7 +108,7 @@ once_steps n = record {
   kept = λ s m bound body member at is.
       (let value = submission s bound body in
       omega (arith, is, sum_one (times_in_member n) s.members m member (record member { appender = kept member.appender bound value }) at, kept_times (has_number n) member.appender bound value, once_more s.count n));
-  grown = λ s p is. omega (arith, is, sum_by_push (times_in_member n) (map (told_epochs (next_epochs s p)) s.members) (fresh (next_epochs s p) (length s.members)), sum_told (times_in_member n) (told_epochs (next_epochs s p)) s.members (λ x. refl))
+  grown = λ s p is. omega (arith, is, sum_by_push (times_in_member n) (map (told_epochs (next_epochs s p)) s.members) (fresh (next_epochs s p) (length s.members)), sum_told (times_in_member n) (told_epochs (next_epochs s p)) s.members (λ x. refl));
 }
 
 fresh_times : (n : ℕ) (e : EpochList) (k : ℕ) → sum_by (times_in_member n) (fresh_upto e k) ≡ 0
@@ -139,7 +147,7 @@ above_steps = record {
       (let value = submission s bound body in
       All-set IsAboveIn s.members m (record member { appender = kept member.appender bound value }) (kept_above (λ (v : Submission). v.bound) member.appender bound value (All-at IsAboveIn s.members m member at is) (omega arith)) is);
   grown = λ s p is. All-push IsAboveIn (map (told_epochs (next_epochs s p)) s.members) (fresh (next_epochs s p) (length s.members)) (All-told IsAboveIn (told_epochs (next_epochs s p)) s.members (λ x above. record { placed = above.placed; waits = above.waits }) is)
-      (record { placed = λ k d inside. absurd (omega (arith, inside)); waits = λ k d inside. absurd (omega (arith, inside)) })
+      (record { placed = λ k d inside. absurd (omega (arith, inside)); waits = λ k d inside. absurd (omega (arith, inside)) });
 }
 
 fresh_above : (e : EpochList) (k : ℕ) → All IsAboveIn (fresh_upto e k)

@@ -322,7 +322,7 @@ pub fresh_length : (e : EpochList) (n : ℕ) → length (fresh_upto e n) ≡ n
 fresh_length e zero = refl
 fresh_length e (suc n) = length_push (fresh_upto e n) (fresh e n) ∙ ap (λ k. k + 1) (fresh_length e n) ∙ omega arith
 
-fresh_at : (e : EpochList) (n m : ℕ) (member : Member) → slice_get (fresh_upto e n) m ≡ Some member → member ≡ fresh e m
+pub fresh_at : (e : EpochList) (n m : ℕ) (member : Member) → slice_get (fresh_upto e n) m ≡ Some member → member ≡ fresh e m
 fresh_at e zero m member is = absurd (let f : None ≡ Some member = is in cc)
 fresh_at e (suc n) m member is = elim (slice_get_push_cases (fresh_upto e n) (fresh e n) member m is) [
   | inl old ↦ fresh_at e n m member old

@@ -1,5 +1,5 @@
 -- What laws of runs speak of.
-use Rattle.std.specs.Prelude.{◌≡◌, ℕ, ◌+◌, ◌≤◌, ◌==◌, ◌&&◌, Bool, if◌then◌else◌, nat_le, List, Option, Some, None, slice_get, sum_by, All}
+use Rattle.std.specs.Prelude.{◌≡◌, ℕ, ◌==◌, ◌&&◌, Bool, if◌then◌else◌, nat_le, List, Option, Some, None, slice_get, sum_by, All}
 use Rattle.maintainer.specs.Maintainers.{IsFilled}
 use Rattle.post_assignment.specs.Appending.{StandsAbove, times_of}
 use Rattle.flstore_service.specs.declared.run.FlOutcome.{FlOutcome}

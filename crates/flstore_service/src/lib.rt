@@ -6,6 +6,8 @@
 //!
 //! **Theorem.** The contracts of `flstore`, which gives exactly that run, of `read_flstore`, whose answer is exactly the
 //! script of the lines or the first bad line with its first cause, and of `fl_text`, whose bytes are those of the run.
+//! `laws` says what holds of every run: each value that was not refused stands or waits once, what stands is above its
+//! bound, and each position up to a head that is told is filled.
 //!
 //! **Decided.** A value keeps its number and its bound, so that what waits and what stands can be listed from the
 //! members. Values are copied where a run shows them. What stands is put in order by position at the end, and what waits
