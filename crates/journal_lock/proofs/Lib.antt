@@ -6,6 +6,7 @@ pub mod Stamps
 pub mod Locks
 pub mod Notices
 pub mod Places
+pub mod Finds
 pub mod Sides
 pub mod Steps
 pub mod Pairs

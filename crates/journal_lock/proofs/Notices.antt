@@ -6,16 +6,17 @@ use lib.ListN.{get_elem?}
 use Rattle.atomic_table.proofs.Lists.{at_set, set_else, at_snoc}
 use Rattle.abstract_log.specs.declared.event.Event.{Event}
 use Rattle.journal_lock.specs.declared.law.Note.{Note}
-use Rattle.journal_lock.specs.declared.law.Note.TheVariants.{Met, Length}
+use Rattle.journal_lock.specs.declared.law.Note.TheVariants.{Met, Length, Found}
 use Rattle.journal_lock.specs.Duties.{datacentre}
 use Rattle.journal_lock.specs.Notes.{IsTrue, AllTrue, Noted}
 use Rattle.journal_lock.specs.Names.{lengths_of}
 use Rattle.journal_lock.proofs.Lists.{prefix_length, stamped_prefix}
 
 -- what is true stays true as the journal grows
-true_longer : (log log' : List Event) → IsPrefix log log' → (x : Note) → IsTrue log x → IsTrue log' x
+pub true_longer : (log log' : List Event) → IsPrefix log log' → (x : Note) → IsTrue log x → IsTrue log' x
 true_longer log log' more (Met count) t = omega (arith, prefix_length log log' more)
 true_longer log log' more (Length d n) t = omega (arith, stamped_prefix datacentre d log log' more)
+true_longer log log' more (Found w value) t = λ d m a b e. omega (arith, t d m a b e, stamped_prefix datacentre d log log' more)
 
 all_longer : (log log' : List Event) → IsPrefix log log' → (xs : List Note) → AllTrue log xs → AllTrue log' xs
 all_longer log log' more [] t = tt

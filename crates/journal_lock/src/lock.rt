@@ -3,17 +3,26 @@ ghost use Rattle.std.specs.Prelude.{◌≡◌, ◌≢◌, ℕ, ◌+◌, ◌<◌,
 ghost use Rattle.abstract_log.specs.Runs.{IsRun, world_of};
 ghost use Rattle.abstract_log.specs.Shapes.{FitsWorkload};
 ghost use Rattle.abstract_log.specs.Steps.{CanHappen};
-ghost use Rattle.journal_lock.specs.declared.law.Note.TheVariants.{Met};
-ghost use Rattle.journal_lock.specs.Duties.{number, place, minus, stamped, duties_of, all_duties, Among, HasDuty};
+ghost use Rattle.journal_lock.specs.declared.law.Note.TheVariants.{Met, Found};
+ghost use Rattle.journal_lock.specs.Duties.{number, place, datacentre, has, minus, stamped, Has, duties_of, all_duties, Among, HasDuty};
 ghost use Rattle.journal_lock.specs.Law.{longer, names, Within};
 ghost use Rattle.journal_lock.specs.Names.{IsNamed, NamesByDuty, lengths_of};
+ghost use Rattle.journal_lock.specs.declared.duty.Duty.TheVariants.{Maintainer};
+ghost use Rattle.cz_base.specs.declared.limits.TheConstants.{DATACENTRES, MEMBERS};
+ghost use Rattle.journal_lock.specs.declared.lock.TheConstants.{MARKS, EPOCHS};
+ghost use Rattle.journal_lock.specs.Words.{mark_word};
+ghost use Rattle.journal_lock.specs.Finds.{best};
 ghost use Rattle.journal_lock.specs.Tried.{IsTried, IsHeld};
 
 use crate::journal::Journal;
-use crate::law::{Amend, Change, Count, Cut, Free, Glue, Law, Learn, Meet, Part, Take, View};
+use crate::law::{
+    Amend, Change, Count, Cut, Free, Glue, Law, Learn, Look, Meet, Part, Take, View, Write,
+};
 use abstract_log::{Event, Run, Workload};
 use atomic_table::{Seat, Table};
-use cz_base::NoMemory;
+use cz_base::limits::{DATACENTRES, MEMBERS};
+use cz_base::{DcId, Lid, NoMemory};
+use flstore_rounds::Epoch;
 use std::alloc::Global;
 use std::marker::Model;
 use std::sync::Wait;
@@ -22,6 +31,12 @@ use std::thread;
 const TURN: usize = 0;
 
 const COUNT: usize = 1;
+
+const MARKS: usize = 2;
+
+const EPOCHS: usize = MARKS + DATACENTRES * MEMBERS;
+
+const WORDS: usize = EPOCHS + DATACENTRES * MEMBERS;
 
 /// The journal under a lock. Threads share it, and each has a pass of its own. Contracts see which lock it is, and
 /// the workload.
@@ -39,7 +54,7 @@ impl Model for JournalLock {
 
     ghost view = { λ l. record { table = l.table.shared.table_id; workload = l.workload } };
 
-    ghost invariant = { λ l. (l.table.shared.table_id.words ≡ 2) × (l.table.shared.table_id.slots ≡ 1) × (l.workload ≡ l.table.shared.key) };
+    ghost invariant = { λ l. (l.table.shared.table_id.words ≡ 258) × (l.table.shared.table_id.slots ≡ 1) × (l.workload ≡ l.table.shared.key) };
 }
 
 /// A thread's pass: it has seen a beginning of the journal, in which all events of its duties stand. It has no bytes
@@ -88,6 +103,16 @@ pub enum Tried {
     Busy { word: u64, pass: Pass },
 }
 
+// Which word has the mark of a maintainer.
+fn mark_place(dc: DcId, member: u32) -> usize
+    requires { member < MEMBERS }
+    ensures value { result ≡ mark_word dc member }
+    ensures dc { dc < DATACENTRES }
+    ensures within { (MARKS ≤ result) × (result < EPOCHS) }
+{
+    MARKS + MEMBERS * dc.number() as usize + member as usize
+}
+
 impl JournalLock {
     /// An empty journal for the workload, and a pass with every duty.
     pub fn new(alloc: Global, workload: Workload) -> Result<(JournalLock, Pass), NoMemory>
@@ -99,7 +124,10 @@ impl JournalLock {
             return Err(NoMemory);
         };
         slots.push_reserved(Some(Journal::new(alloc)));
-        let Ok((table, seat)) = Table::new(alloc, &[0, 0], slots, &workload) else {
+        let Ok(words) = Vec::from_elem(alloc, 0u64, WORDS) else {
+            return Err(NoMemory);
+        };
+        let Ok((table, seat)) = Table::new(alloc, words.as_slice(), slots, &workload) else {
             return Err(NoMemory);
         };
         let pass = Pass {
@@ -204,6 +232,33 @@ impl JournalLock {
         ensures { pass.new ≡ record pass.old { hand = minus place pass.old.hand C.placed; placed = C.placed ++ pass.old.placed; notes = lengths_of C.lengths pass.old.seen ++ pass.old.notes } }
     {
         self.table.shared.load::<Amend<C>>(&mut pass.seat, COUNT);
+    }
+
+    /// A mark of a maintainer, no less than the pass knew, and just that where it has the maintainer's duty. The pass
+    /// notes it.
+    pub fn load_mark(&self, pass: &mut Pass, dc: DcId, member: u32) -> Lid
+        requires lock { pass.old.table ≡ self.now.table }
+        requires member { member < MEMBERS }
+        ensures no_less { best (mark_word dc member) pass.old.notes ≤ result }
+        ensures own { Has (Maintainer dc member) pass.old.duties → result ≡ best (mark_word dc member) pass.old.notes }
+        ensures noted { pass.new ≡ record pass.old { notes = Found (mark_word dc member) result ∷ pass.old.notes } }
+    {
+        self.table
+            .shared
+            .load::<Look>(&mut pass.seat, mark_place(dc, member))
+    }
+
+    /// Raises the mark of a maintainer, to at most one more than the length of its log. The pass notes it.
+    pub fn raise_mark(&self, pass: &mut Pass, dc: DcId, member: u32, mark: Lid)
+        requires lock { pass.old.table ≡ self.now.table }
+        requires member { member < MEMBERS }
+        requires duty { Has (Maintainer dc member) pass.old.duties }
+        requires within { mark ≤ has datacentre dc (stamped pass.old.seen) + 1 }
+        ensures { pass.new ≡ record pass.old { notes = Found (mark_word dc member) mark ∷ pass.old.notes } }
+    {
+        self.table
+            .shared
+            .fetch_max::<Write>(&mut pass.seat, mark_place(dc, member), mark);
     }
 
     /// The workload and the journal, of which a pass with every duty has seen all.
