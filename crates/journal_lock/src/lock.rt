@@ -1,5 +1,5 @@
 //! The lock, its passes and its holder.
-ghost use Rattle.std.specs.Prelude.{◌≡◌, ◌≢◌, ℕ, ◌+◌, ◌<◌, ◌≤◌, ◌||◌, true, [], ◌∷◌, ◌++◌, length, drop, IfOk, OnOk, OnErr};
+ghost use Rattle.std.specs.Prelude.{◌≡◌, ◌≢◌, ℕ, ◌+◌, ◌<◌, ◌≤◌, ◌||◌, true, [], ◌∷◌, ◌++◌, length, drop, Some, IfOk, OnOk, OnErr};
 ghost use Rattle.abstract_log.specs.Runs.{IsRun, world_of};
 ghost use Rattle.abstract_log.specs.Shapes.{FitsWorkload};
 ghost use Rattle.abstract_log.specs.Steps.{CanHappen};
@@ -7,10 +7,10 @@ ghost use Rattle.journal_lock.specs.declared.law.Note.TheVariants.{Met, Found};
 ghost use Rattle.journal_lock.specs.Duties.{number, place, datacentre, has, minus, stamped, Has, duties_of, all_duties, Among, HasDuty};
 ghost use Rattle.journal_lock.specs.Law.{longer, names, Within};
 ghost use Rattle.journal_lock.specs.Names.{IsNamed, NamesByDuty, lengths_of};
-ghost use Rattle.journal_lock.specs.declared.duty.Duty.TheVariants.{Maintainer};
-ghost use Rattle.cz_base.specs.declared.limits.TheConstants.{DATACENTRES, MEMBERS};
-ghost use Rattle.journal_lock.specs.declared.lock.TheConstants.{MARKS, EPOCHS};
-ghost use Rattle.journal_lock.specs.Words.{mark_word};
+ghost use Rattle.journal_lock.specs.declared.duty.Duty.TheVariants.{Maintainer, Token};
+ghost use Rattle.cz_base.specs.declared.limits.TheConstants.{DATACENTRES, MEMBERS, NUMBERS_END};
+ghost use Rattle.journal_lock.specs.declared.lock.TheConstants.{MARKS, EPOCHS, WORDS};
+ghost use Rattle.journal_lock.specs.Words.{mark_word, epoch_word, code};
 ghost use Rattle.journal_lock.specs.Finds.{best};
 ghost use Rattle.journal_lock.specs.Tried.{IsTried, IsHeld};
 
@@ -37,6 +37,9 @@ const MARKS: usize = 2;
 const EPOCHS: usize = MARKS + DATACENTRES * MEMBERS;
 
 const WORDS: usize = EPOCHS + DATACENTRES * MEMBERS;
+
+// The word of an epoch is so many times its start, and its members.
+const SPAN: u64 = 32;
 
 /// The journal under a lock. Threads share it, and each has a pass of its own. Contracts see which lock it is, and
 /// the workload.
@@ -111,6 +114,37 @@ fn mark_place(dc: DcId, member: u32) -> usize
     ensures within { (MARKS ≤ result) × (result < EPOCHS) }
 {
     MARKS + MEMBERS * dc.number() as usize + member as usize
+}
+
+// Which word has an epoch of a datacentre.
+fn epoch_place(dc: DcId, at: usize) -> usize
+    requires { at < MEMBERS }
+    ensures value { result ≡ epoch_word dc at }
+    ensures dc { dc < DATACENTRES }
+    ensures within { (EPOCHS ≤ result) × (result < WORDS) }
+{
+    EPOCHS + MEMBERS * dc.number() as usize + at
+}
+
+// An epoch from its word, which is 0 where there is none.
+fn from_word(word: u64) -> Option<Epoch>
+    ensures { code result ≡ word }
+{
+    if word == 0 {
+        return None;
+    }
+    Some(Epoch {
+        start: word / SPAN,
+        members: (word % SPAN) as u32,
+    })
+}
+
+// The word of an epoch.
+fn to_word(epoch: Epoch) -> u64
+    requires { (epoch.start < NUMBERS_END) × (epoch.members ≤ MEMBERS) }
+    ensures { result ≡ code (Some epoch) }
+{
+    SPAN * epoch.start + epoch.members as u64
 }
 
 impl JournalLock {
@@ -259,6 +293,38 @@ impl JournalLock {
         self.table
             .shared
             .fetch_max::<Write>(&mut pass.seat, mark_place(dc, member), mark);
+    }
+
+    /// The epoch of a datacentre at this place, counted from 0, where there is one. It is the one that the pass knew,
+    /// if it knew one, and just what the pass knew where it has the token's duty. The pass notes it.
+    pub fn load_epoch(&self, pass: &mut Pass, dc: DcId, at: usize) -> Option<Epoch>
+        requires lock { pass.old.table ≡ self.now.table }
+        requires at { at < MEMBERS }
+        ensures no_less { 0 < best (epoch_word dc at) pass.old.notes → code result ≡ best (epoch_word dc at) pass.old.notes }
+        ensures own { Has (Token dc) pass.old.duties → code result ≡ best (epoch_word dc at) pass.old.notes }
+        ensures noted { pass.new ≡ record pass.old { notes = Found (epoch_word dc at) (code result) ∷ pass.old.notes } }
+    {
+        let word = self
+            .table
+            .shared
+            .load::<Look>(&mut pass.seat, epoch_place(dc, at));
+        from_word(word)
+    }
+
+    /// The epoch of a datacentre goes to this place, where there was none, after the earlier ones. It starts above every
+    /// position that the log has. The pass notes it.
+    pub fn write_epoch(&self, pass: &mut Pass, dc: DcId, at: usize, epoch: Epoch)
+        requires lock { pass.old.table ≡ self.now.table }
+        requires duty { Has (Token dc) pass.old.duties }
+        requires at { at < MEMBERS }
+        requires next { (best (epoch_word dc at) pass.old.notes ≡ 0) × ((k : ℕ) → k < at → 0 < best (epoch_word dc k) pass.old.notes) }
+        requires above { has datacentre dc (stamped pass.old.seen) < epoch.start }
+        requires within { (epoch.start < NUMBERS_END) × (1 ≤ epoch.members) × (epoch.members ≤ MEMBERS) }
+        ensures { pass.new ≡ record pass.old { notes = Found (epoch_word dc at) (code (Some epoch)) ∷ pass.old.notes } }
+    {
+        self.table
+            .shared
+            .store::<Write>(&mut pass.seat, epoch_place(dc, at), to_word(epoch));
     }
 
     /// The workload and the journal, of which a pass with every duty has seen all.
