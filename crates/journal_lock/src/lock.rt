@@ -11,12 +11,14 @@ ghost use Rattle.journal_lock.specs.declared.duty.Duty.TheVariants.{Maintainer, 
 ghost use Rattle.cz_base.specs.declared.limits.TheConstants.{DATACENTRES, MEMBERS, NUMBERS_END};
 ghost use Rattle.journal_lock.specs.declared.lock.TheConstants.{MARKS, EPOCHS, WORDS};
 ghost use Rattle.journal_lock.specs.Words.{mark_word, epoch_word, code};
-ghost use Rattle.journal_lock.specs.Finds.{best};
+ghost use Rattle.journal_lock.specs.Finds.{best, read_notes};
+ghost use Rattle.journal_lock.specs.Marks.{MayRise};
 ghost use Rattle.journal_lock.specs.Tried.{IsTried, IsHeld};
 
 use crate::journal::Journal;
 use crate::law::{
-    Amend, Change, Count, Cut, Free, Glue, Law, Learn, Look, Meet, Part, Take, View, Write,
+    Amend, Change, Count, Cut, Free, Glue, Law, Learn, Look, Meet, Part, Plan, Read, Take, View,
+    Write,
 };
 use abstract_log::{Event, Run, Workload};
 use atomic_table::{Seat, Table};
@@ -45,8 +47,8 @@ const SPAN: u64 = 32;
 /// the workload.
 #[derive(Drop)]
 pub struct JournalLock {
-    table: Table<Option<Journal>, View, Workload, Law, Global>,
-    workload: Workload,
+    table: Table<Option<Journal>, View, Plan, Law, Global>,
+    plan: Plan,
 }
 
 impl Model for JournalLock {
@@ -55,9 +57,9 @@ impl Model for JournalLock {
 
     ghost Value = { Lock };
 
-    ghost view = { λ l. record { table = l.table.shared.table_id; workload = l.workload } };
+    ghost view = { λ l. record { table = l.table.shared.table_id; workload = l.plan.workload; round = l.plan.round } };
 
-    ghost invariant = { λ l. (l.table.shared.table_id.words ≡ 258) × (l.table.shared.table_id.slots ≡ 1) × (l.workload ≡ l.table.shared.key) };
+    ghost invariant = { λ l. (l.table.shared.table_id.words ≡ 258) × (l.table.shared.table_id.slots ≡ 1) × (l.plan ≡ l.table.shared.key) };
 }
 
 /// A thread's pass: it has seen a beginning of the journal, in which all events of its duties stand. It has no bytes
@@ -149,9 +151,14 @@ fn to_word(epoch: Epoch) -> u64
 
 impl JournalLock {
     /// An empty journal for the workload, and a pass with every duty.
-    pub fn new(alloc: Global, workload: Workload) -> Result<(JournalLock, Pass), NoMemory>
+    pub fn new(
+        alloc: Global,
+        workload: Workload,
+        round: u32,
+    ) -> Result<(JournalLock, Pass), NoMemory>
         requires { FitsWorkload workload }
         ensures lock { IfOk result (λ t. (t.0.workload ≡ workload) × (t.1.table ≡ t.0.table) × (t.1.workload ≡ workload)) }
+        ensures round { IfOk result (λ t. t.0.round ≡ round) }
         ensures pass { IfOk result (λ t. (t.1.seen ≡ []) × (t.1.duties ≡ all_duties workload) × (t.1.notes ≡ []) × (t.1.hand ≡ []) × (t.1.placed ≡ [])) }
     {
         let Ok(mut slots) = Vec::with_capacity(alloc, 1) else {
@@ -161,14 +168,15 @@ impl JournalLock {
         let Ok(words) = Vec::from_elem(alloc, 0u64, WORDS) else {
             return Err(NoMemory);
         };
-        let Ok((table, seat)) = Table::new(alloc, words.as_slice(), slots, &workload) else {
+        let plan = Plan { workload, round };
+        let Ok((table, seat)) = Table::new(alloc, words.as_slice(), slots, &plan) else {
             return Err(NoMemory);
         };
         let pass = Pass {
             seat,
             failed: false,
         };
-        Ok((JournalLock { table, workload }, pass))
+        Ok((JournalLock { table, plan }, pass))
     }
 
     /// Takes the turn, unless it stands taken. The holder has seen the whole journal, which has no event of its
@@ -277,37 +285,40 @@ impl JournalLock {
         ensures own { Has (Maintainer dc member) pass.old.duties → result ≡ best (mark_word dc member) pass.old.notes }
         ensures noted { pass.new ≡ record pass.old { notes = Found (mark_word dc member) result ∷ pass.old.notes } }
     {
-        self.table
-            .shared
-            .load::<Look>(&mut pass.seat, mark_place(dc, member))
+        let word = mark_place(dc, member);
+        self.table.shared.load::<Look>(&mut pass.seat, word)
     }
 
-    /// Raises the mark of a maintainer, to at most one more than the length of its log. The pass notes it.
+    /// Raises the mark of a maintainer, to at most one more than the length of its log. The pass has placed each of the
+    /// maintainer's positions below it, and knows that they stay its own. The pass notes the mark.
     pub fn raise_mark(&self, pass: &mut Pass, dc: DcId, member: u32, mark: Lid)
         requires lock { pass.old.table ≡ self.now.table }
         requires member { member < MEMBERS }
         requires duty { Has (Maintainer dc member) pass.old.duties }
         requires within { mark ≤ has datacentre dc (stamped pass.old.seen) + 1 }
+        requires placed { MayRise self.now.round dc member mark pass.old.notes pass.old.placed }
         ensures { pass.new ≡ record pass.old { notes = Found (mark_word dc member) mark ∷ pass.old.notes } }
     {
+        let word = mark_place(dc, member);
         self.table
             .shared
-            .fetch_max::<Write>(&mut pass.seat, mark_place(dc, member), mark);
+            .fetch_max::<Write>(&mut pass.seat, word, mark);
     }
 
     /// The epoch of a datacentre at this place, counted from 0, where there is one. It is the one that the pass knew,
-    /// if it knew one, and just what the pass knew where it has the token's duty. The pass notes it.
+    /// if it knew one, and just what the pass knew where it has the token's duty. The pass notes it, and where there is
+    /// none, that later ones start above what it has seen of the log.
     pub fn load_epoch(&self, pass: &mut Pass, dc: DcId, at: usize) -> Option<Epoch>
         requires lock { pass.old.table ≡ self.now.table }
         requires at { at < MEMBERS }
         ensures no_less { 0 < best (epoch_word dc at) pass.old.notes → code result ≡ best (epoch_word dc at) pass.old.notes }
         ensures own { Has (Token dc) pass.old.duties → code result ≡ best (epoch_word dc at) pass.old.notes }
-        ensures noted { pass.new ≡ record pass.old { notes = Found (epoch_word dc at) (code result) ∷ pass.old.notes } }
+        ensures noted { pass.new ≡ record pass.old { notes = read_notes (epoch_word dc at) (has datacentre dc (stamped pass.old.seen)) (code result) ++ pass.old.notes } }
     {
         let word = self
             .table
             .shared
-            .load::<Look>(&mut pass.seat, epoch_place(dc, at));
+            .load::<Read>(&mut pass.seat, epoch_place(dc, at));
         from_word(word)
     }
 
@@ -335,14 +346,14 @@ impl JournalLock {
         ensures events { result.events ≡ pass.seen }
         ensures run { IsRun self.workload result.events }
     {
-        let Self { table, workload } = self;
+        let Self { table, plan } = self;
         let Pass { seat, failed: _ } = pass;
         let mut closed = table.close_with(seat);
         let slot = closed.take(0);
         closed.free();
         let Some(journal) = slot else { unreachable!() };
         Run {
-            workload,
+            workload: plan.workload,
             events: journal.into_events(),
         }
     }
