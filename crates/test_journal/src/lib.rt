@@ -7,4 +7,4 @@ mod learning;
 #[cfg(test)]
 mod threads;
 
-pub use learning::{Work, learn_four, learn_one, learn_often, learn_two};
+pub use learning::{Work, learn_four, learn_often, learn_one, learn_two};

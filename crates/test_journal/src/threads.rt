@@ -22,7 +22,17 @@ fn four_threads_push_at_once(rt: HostRuntime) -> Result<(), Fail> {
         dcs: 4,
         times: TIMES,
     };
-    learn_four(&rt, alloc, &lock, work, &mut pass, DcId::FIRST, second, third, fourth);
+    learn_four(
+        &rt,
+        alloc,
+        &lock,
+        work,
+        &mut pass,
+        DcId::FIRST,
+        second,
+        third,
+        fourth,
+    );
     if pass.failed() {
         return Err(Fail::from("no memory for what is learnt"));
     }

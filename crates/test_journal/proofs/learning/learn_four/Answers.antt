@@ -1,7 +1,7 @@
-use Rattle.std.proofs.Common.{List, ◌≡◌, ◌≢◌, ℕ, ap, sym, subst, arith}
+use Rattle.std.proofs.Common.{ap, sym, subst, arith}
 use Rattle.journal_lock.specs.declared.duty.Duty.{Duty}
 use Rattle.journal_lock.specs.declared.duty.Duty.TheVariants.{Table}
-use Rattle.journal_lock.specs.Duties.{number, minus, Has}
+use Rattle.journal_lock.specs.Duties.{Has}
 use Rattle.journal_lock.specs.Passes.{Ticket}
 use Rattle.test_journal.proofs.Duties.{among_one, still_has}
 use Rattle.test_journal.proofs.learning.learn_four.Goals as goal
