@@ -73,7 +73,7 @@ own_from_next t m (suc n) p q le near own = elim (cases_eq (owner t p) m) [
       subst (IsNextOwn t m p) (sym (cond-false (eqb (owner t p) m) p (own_from t m n (p + 1)) (ne_eqb (owner t p) m other))) (record {
         above = omega (arith, rest.above);
         own = rest.own;
-        least = λ k from below is. elim (cases_eq p k) [ inl here ↦ other (ap (owner t) here ∙ is) | inr later ↦ rest.least k (omega (arith, from, later)) below is ]
+        least = λ k from below is. elim (cases_eq p k) [ inl here ↦ other (ap (owner t) here ∙ is) | inr later ↦ rest.least k (omega (arith, from, later)) below is ];
       })
 ]
 

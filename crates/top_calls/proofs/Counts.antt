@@ -1,5 +1,5 @@
 -- What the counts of faults tell of a status, and where a run is told.
-use Rattle.std.proofs.Common.{◌≡◌, inl, inr, ◌<◌, ◌↔◌, ℕ, List, refl, sym, subst, arith}
+use Rattle.std.proofs.Common.{◌≡◌, inl, inr, ◌<◌, ◌↔◌, ℕ, List, refl, sym, subst, ◌∙◌, arith}
 use Rattle.std.specs.Prelude.{Option, Some, None, IsSome}
 use Rattle.cz_base.specs.Faults.{Rose}
 use Rattle.abstract_log.specs.declared.script.Script.{Script}
