@@ -1,5 +1,5 @@
 -- Floor and collection at a whole datacentre: what the lent stages leave is what the stage world's turn leaves.
-use Rattle.std.proofs.Common.{Result, Ok, Err, IfOk, OnOk, ◌≡◌, ℕ, zero, suc, ◌+◌, ◌<◌, ◌≤◌, min, max, Bool, true, false, cond, ltb, eqb, nat_lt, find, List, [], ◌∷◌, ◌++◌, length, map, set, get_or, Option, Some, None, refl, ap, ap₂, sym, ◌∙◌, subst, arith}
+use Rattle.std.proofs.Common.{Result, Ok, Err, IfOk, OnOk, ◌≡◌, ℕ, ◌<◌, ◌≤◌, min, max, Bool, true, false, cond, ltb, eqb, nat_lt, find, List, [], ◌∷◌, ◌++◌, length, map, set, get_or, Option, Some, None, refl, ap, ap₂, sym, ◌∙◌, subst, arith}
 use Rattle.std.specs.List.{All, cons_option, fold}
 use Rattle.std.specs.Option.{option_and_then}
 use Rattle.std.proofs.lemmas.Bool.{lt-ltb}
@@ -14,17 +14,15 @@ use Rattle.log_gc.specs.Floors.{Floored, lowest, pin_of}
 use Rattle.log_gc.proofs.PinLemmas.{lowest_bound, lowest_greatest, lowest_pin}
 use Rattle.maintainer.specs.Maintainers.{MaintainerState, collected, plain}
 use Rattle.stage_world.specs.Stages.{Datacentre, Session, maintainer_at, no_epochs, vector_at}
-use Rattle.stage_world.specs.StandsFor.{numbers_of}
 use Rattle.stage_world.specs.Turns.{Turned, where_there}
 use Rattle.stage_world.specs.MoreTurns.{collect_turn, collected_outcome, entries_to_go, floor_raised, floor_turn, least_with, pins_of, place_of_entry}
 use Rattle.stage_world.proofs.FloorTurn.{least-le, pins_least}
 use Rattle.stage_turns.specs.declared.done.TurnDone.{TurnDone}
 use Rattle.stage_turns.specs.Changing.{has_some}
 use Rattle.stage_turns.specs.Collecting.{MayCollect, covered_by, lid_at, risen, to_go}
-use Rattle.stage_turns.specs.Lent.{maintainers_seen}
 use Rattle.stage_turns.proofs.CollectTurns.{collect_tells, floor_tells, may_collect_at, plain_collected_all}
 use Rattle.datacentre.specs.declared.parts.Parts.{Parts}
-use Rattle.datacentre.specs.Seen.{IsWhole, pin_in, seen}
+use Rattle.datacentre.specs.Seen.{pin_in, seen}
 use Rattle.datacentre.specs.Turning.{IsTurned, MayTurn}
 use Rattle.datacentre.proofs.PinLemmas.{pins_held}
 use Rattle.datacentre.proofs.WholeTurns.{as_many, first_there, lent_is, maintainer_lent, there, told_of}

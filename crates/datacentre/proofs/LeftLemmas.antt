@@ -1,5 +1,5 @@
 -- What parts leave is what each world leaves for which they stand.
-use Rattle.std.proofs.Common.{◌≡◌, ℕ, zero, suc, ◌+◌, ◌<◌, ◌≤◌, cond, true, false, Bool, List, [], ◌∷◌, ◌++◌, length, map, take, get_or, set, refl, ap, ap₂, sym, ◌∙◌, subst, arith, add-one, append-nil, Result, Ok, Err, IfOk}
+use Rattle.std.proofs.Common.{◌≡◌, ℕ, ◌+◌, ◌<◌, ◌≤◌, false, Bool, List, [], ◌∷◌, ◌++◌, length, map, take, get_or, refl, ap, ap₂, sym, ◌∙◌, subst, arith, add-one, append-nil, Result, Ok, Err, IfOk}
 use Rattle.std.specs.List.{flat_map, fold}
 use Rattle.std.proofs.lemmas.List.{get_or-set_other, length-set, take_all}
 use Rattle.std.proofs.lemmas.List.Sums.{fold-append}
@@ -9,15 +9,12 @@ use Rattle.causal_deps.specs.declared.record.Place.{Place}
 use Rattle.causal_deps.specs.declared.record.Record.{Record}
 use Rattle.abstract_log.specs.declared.left.LeftAt.{LeftAt}
 use Rattle.abstract_log.specs.declared.left.Row.{Row}
-use Rattle.abstract_log.specs.declared.world.World.{World}
-use Rattle.abstract_log.specs.Left.{left_at}
-use Rattle.maintainer.specs.Maintainers.{MaintainerState, plain}
+use Rattle.maintainer.specs.Maintainers.{MaintainerState}
 use Rattle.maintainer.specs.declared.slot.Slot.{Slot}
 use Rattle.token_queue.specs.declared.entry.Entry.{Entry}
-use Rattle.token_queue.specs.Queues.{QueueState, outbox_for, tokenless, without_outbox}
+use Rattle.token_queue.specs.Queues.{QueueState, outbox_for, without_outbox}
 use Rattle.stage_world.specs.Leaving.{blank_rows, rows_told, slots_in, slots_kept, slots_waiting, with_place, with_slot}
 use Rattle.stage_world.specs.Stages.{slot_of}
-use Rattle.stage_world.specs.StandsFor.{StandsAt}
 use Rattle.stage_world.proofs.LeavingLemmas.{rows_are}
 use Rattle.stage_turns.specs.Lent.{maintainers_seen, queues_seen, token_seen}
 use Rattle.datacentre.specs.declared.leaving.Remains.{Remains}

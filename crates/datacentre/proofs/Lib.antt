@@ -7,3 +7,5 @@ pub mod LiveLemmas
 pub mod LeftLemmas
 pub mod FloorTurns
 pub mod PostTurns
+pub mod WholeJoins
+pub mod WholeMarks

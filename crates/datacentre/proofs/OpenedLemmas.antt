@@ -34,6 +34,7 @@ pub record AreNew (sizes : Sizes) (load : Workload) (d : ℕ) (e : EpochList) (s
   pub batchers : p.batchers ≡ replicate sizes.batchers []
   pub filters : p.filters ≡ numbered (λ i. new_filter i shares) sizes.filters
   pub shared : p.map ≡ shares
+  pub marks : p.marks ≡ None
   pub queues : queues_seen p.queues ≡ numbered (λ i. new_queue i e) sizes.queues
   pub token : HaveToken p.queues (first_token d load.dcs e sizes.queues)
   pub maintainers : p.maintainers ≡ numbered (λ i. empty i e) sizes.maintainers
@@ -85,7 +86,7 @@ module _ (round : ℕ) (sizes : Sizes) (load : Workload) (d : ℕ) (e : EpochLis
     batchers = h.batchers i;
     filters = h.filters i;
     map = h.shared i;
-    announcement = None;
+    announcement = h.marks i;
     queues = h.queues i;
     token = token_first i;
     maintainers = maintainers_first i;

@@ -9,13 +9,13 @@ use Rattle.maintainer.specs.Maintainers.{MaintainerState, plain}
 use Rattle.tag_indexer.specs.Indexers.{IndexerState}
 use Rattle.stage_world.specs.Stages.{Datacentre, indexer_at, maintainer_at, no_indexer, no_maintainer}
 use Rattle.stage_world.specs.Turns.{Turned, where_there}
-use Rattle.stage_world.specs.MoreTurns.{post_turn, posted, posted_to}
+use Rattle.stage_world.specs.MoreTurns.{post_turn, posted_to}
 use Rattle.stage_turns.specs.declared.done.TurnDone.{TurnDone}
 use Rattle.stage_turns.specs.Lent.{maintainers_seen}
 use Rattle.stage_turns.specs.Posting.{MayPost, post_mark}
 use Rattle.stage_turns.proofs.PostingTurns.{may_post, may_plain, mark_plain, posted_plain, post_tells}
 use Rattle.datacentre.specs.declared.parts.Parts.{Parts}
-use Rattle.datacentre.specs.Seen.{IsWhole, seen}
+use Rattle.datacentre.specs.Seen.{seen}
 use Rattle.datacentre.specs.Turning.{IsTurned, MayTurn}
 use Rattle.datacentre.proofs.WholeTurns.{as_many, lent_is, maintainer_lent, there, told_of}
 

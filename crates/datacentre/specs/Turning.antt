@@ -1,5 +1,6 @@
 -- What a turn of a datacentre asks, what it leaves, and what it answers.
 use Rattle.std.specs.Prelude.{◌≡◌, ◌⊎◌, ⊤, ℕ, ◌<◌, ◌≤◌, false, List, length, Option, Some, None, Result, MatchOption, MatchResult}
+use Rattle.cz_base.specs.declared.limits.TheConstants.{MEMBERS, NUMBERS_END}
 use Rattle.abstract_log.specs.declared.script.Step.{Step}
 use Rattle.abstract_log.specs.declared.script.Step.TheVariants.{Client, Flush, Pass, Stamp, Token, Place, Gossip, Post, Learn, Send, Deliver, Lose, Copy, Floor, Collect, Announce, Mark, AddMaintainer, AddBatcher, AddQueue, AddSender, AddReceiver}
 use Rattle.stage_world.specs.Stages.{Datacentre}
@@ -38,7 +39,8 @@ pub record TookTurn (d : ℕ) (z : Datacentre) (turned : Turned) (done : TurnDon
 abbrev pub HasFailed : DatacentreState → Type 0
 HasFailed new = new.stages ≡ None
 
--- The turns that take no memory: those of the token and of the floor, and each that names a member which is not there.
+-- The turns that take no memory: those of the token and of the floor, an announcement, a receiver that joins, and each that names
+-- a member which is not there or adds one where there is no room.
 abbrev pub TakesNoMemory : Datacentre → Step → Type 0
 TakesNoMemory z (Client s) = ⊥
 TakesNoMemory z (Flush d b) = length z.batchers ≤ b
@@ -55,13 +57,13 @@ TakesNoMemory z (Lose d e k) = ⊥
 TakesNoMemory z (Copy d e k) = ⊥
 TakesNoMemory z (Floor d p) = ⊤
 TakesNoMemory z (Collect d m) = length z.maintainers ≤ m
-TakesNoMemory z (Announce d h t) = ⊥
+TakesNoMemory z (Announce d h t) = ⊤
 TakesNoMemory z (Mark d) = ⊥
-TakesNoMemory z (AddMaintainer d p) = ⊥
-TakesNoMemory z (AddBatcher d) = ⊥
-TakesNoMemory z (AddQueue d) = ⊥
-TakesNoMemory z (AddSender d) = ⊥
-TakesNoMemory z (AddReceiver d) = ⊥
+TakesNoMemory z (AddMaintainer d p) = MEMBERS ≤ length z.maintainers
+TakesNoMemory z (AddBatcher d) = MEMBERS ≤ length z.batchers
+TakesNoMemory z (AddQueue d) = MEMBERS ≤ length z.queues
+TakesNoMemory z (AddSender d) = MEMBERS ≤ z.senders
+TakesNoMemory z (AddReceiver d) = ⊤
 
 -- It took the turn, or memory was wanted and it has failed.
 abbrev pub TakesTurn : {E : Type 0} → ℕ → Datacentre → Turned → Result TurnDone E → DatacentreState → Type 0
@@ -81,27 +83,27 @@ Sends d z k e result new = MatchResult result
     (λ sent. TookTurn d z (turn_of d z (Send d k e)) sent.0 new × IsPacketOf d z k e sent.1)
     (λ _. HasFailed new)
 
--- the steps that are taken by `turn` so far
-abbrev pub IsBuilt : Datacentre → Step → Type 0
-IsBuilt z (Client s) = ⊤
-IsBuilt z (Flush d b) = ⊤
-IsBuilt z (Pass d f q) = ⊤
-IsBuilt z (Stamp d q) = ⊤
-IsBuilt z (Token d) = ⊤
-IsBuilt z (Place d q m) = ⊤
-IsBuilt z (Gossip d m k) = ⊤
-IsBuilt z (Post d m i) = ⊤
-IsBuilt z (Learn d) = ⊤
-IsBuilt z (Send d k e) = ⊥
-IsBuilt z (Deliver d e k r) = ⊥
-IsBuilt z (Lose d e k) = ⊥
-IsBuilt z (Copy d e k) = ⊥
-IsBuilt z (Floor d p) = ⊤
-IsBuilt z (Collect d m) = ⊤
-IsBuilt z (Announce d h t) = ⊥
-IsBuilt z (Mark d) = ⊥
-IsBuilt z (AddMaintainer d p) = ⊥
-IsBuilt z (AddBatcher d) = ⊥
-IsBuilt z (AddQueue d) = ⊥
-IsBuilt z (AddSender d) = ⊥
-IsBuilt z (AddReceiver d) = ⊥
+-- the steps that `turn` takes: all but those of links, which are calls of their own; with the numbers in their ranges
+abbrev pub IsOwnStep : Datacentre → Step → Type 0
+IsOwnStep z (Client s) = ⊤
+IsOwnStep z (Flush d b) = ⊤
+IsOwnStep z (Pass d f q) = ⊤
+IsOwnStep z (Stamp d q) = ⊤
+IsOwnStep z (Token d) = ⊤
+IsOwnStep z (Place d q m) = ⊤
+IsOwnStep z (Gossip d m k) = ⊤
+IsOwnStep z (Post d m i) = ⊤
+IsOwnStep z (Learn d) = ⊤
+IsOwnStep z (Send d k e) = ⊥
+IsOwnStep z (Deliver d e k r) = ⊥
+IsOwnStep z (Lose d e k) = ⊥
+IsOwnStep z (Copy d e k) = ⊥
+IsOwnStep z (Floor d p) = ⊤
+IsOwnStep z (Collect d m) = ⊤
+IsOwnStep z (Announce d h t) = h < length z.table
+IsOwnStep z (Mark d) = ⊤
+IsOwnStep z (AddMaintainer d p) = p < NUMBERS_END
+IsOwnStep z (AddBatcher d) = ⊤
+IsOwnStep z (AddQueue d) = ⊤
+IsOwnStep z (AddSender d) = ⊤
+IsOwnStep z (AddReceiver d) = ⊤

@@ -11,7 +11,7 @@ ghost use Rattle.stage_world.specs.Schedules.{turn_of};
 ghost use Rattle.datacentre.specs.Seen.{IsWhole, StandsForALog, seen};
 ghost use Rattle.stage_turns.specs.Clients.{is_unanswered};
 ghost use Rattle.datacentre.specs.Leaving.{IsLeftBy};
-ghost use Rattle.datacentre.specs.Turning.{IsBuilt, Sends, TakesNoMemory, TakesTurn};
+ghost use Rattle.datacentre.specs.Turning.{IsOwnStep, Sends, TakesNoMemory, TakesTurn};
 ghost use Rattle.stage_turns.specs.Told.{IsToldBy};
 ghost use Rattle.record_codec.specs.declared.message.Message.{Message};
 ghost use Rattle.record_codec.specs.Wire.{SpellsMessage};
@@ -31,6 +31,7 @@ use cz_base::{DcId, NoMemory, Seq};
 use flstore_rounds::Epochs;
 use log_gc::Gc;
 use lossy_links::Packet;
+use stage_marks::Marks;
 use std::alloc::Global;
 use std::marker::Model;
 use toid_filter::Champions;
@@ -75,11 +76,11 @@ impl Datacentre {
         })
     }
 
-    /// The turn of one of the stages, as far as these are built: its events and what it answers. A send is a call of its
-    /// own, and so is what a link brings.
+    /// The turn of one of the stages: its events and what it answers. A send is a call of its own, and so is what a link
+    /// brings.
     pub fn turn(&mut self, step: &Step) -> Result<TurnDone, NoMemory>
         requires log { ForSome self.old.stages (StandsForALog self.old.dc) }
-        requires built { ForSome self.old.stages (λ z. IsBuilt z step.now) }
+        requires own { ForSome self.old.stages (λ z. IsOwnStep z step.now) }
         ensures turn { ForSome self.old.stages (λ z. TakesTurn self.old.dc z (turn_of self.old.dc z step.now) result self.new) }
         ensures succeeds { ForSome self.old.stages (λ z. TakesNoMemory z step.now → IsOk result) }
         ensures failed { self.old.stages ≡ None → IsErr result × (self.new ≡ self.old) }
@@ -260,6 +261,7 @@ fn new_parts(
         batchers: new_batchers(alloc, sizes.batchers)?,
         filters: new_filters(alloc, sizes.filters, &map)?,
         map,
+        marks: Marks::new(),
         queues: new_ring(alloc, dc, dcs, sizes.queues, &epochs)?,
         maintainers: new_maintainers(alloc, sizes.maintainers, &epochs)?,
         vectors: new_vectors(alloc, sizes.maintainers, &epochs)?,

@@ -8,7 +8,9 @@
 #![tactic(auto)]
 
 mod datacentre;
+mod joining;
 mod leaving;
+mod marking;
 mod opening;
 mod parts;
 mod taking;

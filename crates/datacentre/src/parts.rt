@@ -9,6 +9,7 @@ use hyksos::Session;
 use log_gc::Gc;
 use maintainer::Maintainer;
 use sender_receiver::Sender;
+use stage_marks::Marks;
 use tag_indexer::Indexer;
 use toid_filter::{Champions, Filter};
 use token_queue::Queue;
@@ -23,6 +24,8 @@ pub(crate) struct Parts {
     pub batchers: Seq<Batcher>,
     pub filters: Seq<Filter>,
     pub map: Champions,
+    /// The announcement that the filters are asked to accept.
+    pub marks: Marks,
     pub queues: Seq<Queue>,
     pub maintainers: Seq<Maintainer<Record>>,
     pub vectors: Seq<Vector>,

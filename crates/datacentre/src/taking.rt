@@ -11,7 +11,7 @@ ghost use Rattle.datacentre.specs.Seen.{seen};
 ghost use Rattle.stage_world.specs.Schedules.{turn_of};
 ghost use Rattle.hyksos.specs.Sessions.{writes};
 ghost use Rattle.stage_turns.specs.Told.{IsToldBy};
-ghost use Rattle.datacentre.specs.Turning.{IsBuilt, IsPacketOf, IsTurned, MayTurn, TakesNoMemory, send_told};
+ghost use Rattle.datacentre.specs.Turning.{IsOwnStep, IsPacketOf, IsTurned, MayTurn, TakesNoMemory, send_told};
 
 use crate::parts::Parts;
 use crate::{TurnDone, turns};
@@ -23,7 +23,7 @@ impl Parts {
     /// The turn that a step names.
     pub fn take_turn(&mut self, step: &Step) -> Result<TurnDone, NoMemory>
         requires may { MayTurn self.old }
-        requires built { IsBuilt (seen self.old) step.now }
+        requires own { IsOwnStep (seen self.old) step.now }
         ensures turned { IfOk result (λ done. IsTurned self.old self.new done (turn_of self.old.dc (seen self.old) step.now)) }
         ensures succeeds { TakesNoMemory (seen self.old) step.now → IsOk result }
     {
@@ -39,7 +39,16 @@ impl Parts {
             Step::Learn { .. } => self.learn(),
             Step::Floor { p, .. } => self.raise_floor(*p),
             Step::Collect { m, .. } => self.collect(*m),
-            _ => unreachable!(),
+            Step::AddMaintainer { p, .. } => self.add_maintainer(*p),
+            Step::AddBatcher { .. } => self.add_batcher(),
+            Step::AddQueue { .. } => self.add_queue(),
+            Step::AddSender { .. } => self.add_sender(),
+            Step::AddReceiver { .. } => self.add_receiver(),
+            Step::Announce { h, t, .. } => Ok(self.announce(*h, *t)),
+            Step::Mark { .. } => self.mark(),
+            Step::Send { .. } | Step::Deliver { .. } | Step::Lose { .. } | Step::Copy { .. } => {
+                unreachable!()
+            }
         }
     }
 
@@ -264,8 +273,8 @@ impl Parts {
         Ok((sent.done, Some(sent.packet)))
     }
 
-    // What is answered where a member is not there.
-    fn absent(&self) -> TurnDone
+    /// What is answered where a member is not there.
+    pub fn absent(&self) -> TurnDone
         ensures { result ≡ record { outcome = Absent; events = []; changed = false } }
     {
         TurnDone {

@@ -6,6 +6,8 @@ pub mod Stamps
 pub mod Locks
 pub mod Notices
 pub mod Places
+pub mod Finds
+pub mod Marks
 pub mod Sides
 pub mod Steps
 pub mod Pairs

@@ -1,5 +1,5 @@
 -- Sums over the views, prefixes, lists of duties and positions, and what events need and fill.
-use Rattle.std.proofs.Common.{◌≡◌, ◌≢◌, ℕ, zero, suc, ◌+◌, ◌<◌, ◌≤◌, ◌==◌, Bool, true, false, cond, List, [], ◌∷◌, ◌++◌, length, drop, set, refl, ap, sym, ◌∙◌, arith, le_refl, append_assoc, length-append}
+use Rattle.std.proofs.Common.{◌*◌, ◌≡◌, ◌≢◌, ℕ, zero, suc, ◌+◌, ◌<◌, ◌≤◌, ◌==◌, Bool, true, false, cond, List, [], ◌∷◌, ◌++◌, length, drop, set, refl, ap, sym, ◌∙◌, arith, le_refl, append_assoc, length-append}
 use Rattle.std.proofs.lemmas.Bool.Decides.{nat_tests}
 use Rattle.std.proofs.lemmas.List.Sums.{sum_by-append, sum_by-cons}
 use mathlib.Core.Option.{some, some-injective, some-ne-none}
@@ -10,7 +10,7 @@ use Rattle.abstract_log.specs.declared.event.Event.TheVariants.{Submit, Append, 
 use Rattle.journal_lock.specs.declared.duty.Duty.{Duty}
 use Rattle.journal_lock.specs.declared.duty.Duty.TheVariants.{Token, Table, Session, Draft}
 use Rattle.journal_lock.specs.declared.duty.Position.{Position}
-use Rattle.journal_lock.specs.Duties.{number, has, without, minus, Among, often, duties_of, positions_of, stamped}
+use Rattle.journal_lock.specs.Duties.{number, datacentre, has, without, minus, Among, often, duties_of, positions_of, stamped}
 use Rattle.journal_lock.specs.Law.{total}
 
 -- the sum after a change of one
@@ -171,3 +171,26 @@ stamped_more f x xs ys p = ap (λ l. has f x (stamped l)) (sym p.1)
 
 pub stamped_prefix : (f : Position → ℕ) (x : ℕ) (xs ys : List Event) → IsPrefix xs ys → has f x (stamped xs) ≤ has f x (stamped ys)
 stamped_prefix f x xs ys p = omega (arith, stamped_more f x xs ys p)
+
+one_dc : (d e : ℕ) → cond {A = ℕ} (e == d) 1 0 ≤ cond {A = ℕ} (66 * e == 66 * d) 1 0
+one_dc d e = grind (arith, nat_tests)
+
+-- an event that fills a position needs the token of its datacentre
+stamp_needs : (d : ℕ) (e : Event) → has datacentre d (positions_of e) ≤ has number (number (Token d)) (duties_of e)
+stamp_needs d (Submit s k) = omega arith
+stamp_needs d (Append e s k lid toid) = omega (arith, one_dc d e, has_cons datacentre d (record { dc = e; lid = lid }) [], has_cons number (number (Token d)) (Session s) (Draft s ∷ Token e ∷ []), has_cons number (number (Token d)) (Draft s) (Token e ∷ []), has_cons number (number (Token d)) (Token e) [])
+stamp_needs d (Receive e f table names) = omega arith
+stamp_needs d (Add e lid h t) = omega (arith, one_dc d e, has_cons datacentre d (record { dc = e; lid = lid }) [], has_cons number (number (Token d)) (Token e) [])
+stamp_needs d (Learn e row) = omega arith
+stamp_needs d (Reply e s k at answer) = omega arith
+stamp_needs d (Collect e p) = omega arith
+
+stamps_need : (d : ℕ) (es : List Event) → has datacentre d (stamped es) ≤ often (number (Token d)) es
+stamps_need d [] = omega arith
+stamps_need d (e ∷ es) = omega (arith, stamp_needs d e, stamps_need d es, has_append datacentre d (positions_of e) (stamped es), sum_by-cons (λ (z : Event). has number (number (Token d)) (duties_of z)) e es)
+
+-- who has the token of a datacentre knows how many of its positions are filled
+pub stamped_known : (d : ℕ) (seen log : List Event) → IsPrefix seen log → often (number (Token d)) log ≡ often (number (Token d)) seen → has datacentre d (stamped log) ≡ has datacentre d (stamped seen)
+stamped_known d seen log p same =
+    let rest : List Event = p.0 in let split = ap (λ l. has datacentre d (stamped l)) (sym p.1) ∙ ap (has datacentre d) (stamped_append seen rest) in
+    omega (arith, split, has_append datacentre d (stamped seen) (stamped rest), stamps_need d rest, ap (often (number (Token d))) (sym p.1), often_append (number (Token d)) seen rest, same)

@@ -1,6 +1,9 @@
 pub mod Duties
 pub mod Law
+pub mod Words
 pub mod Notes
+pub mod Finds
+pub mod Marks
 pub mod Names
 pub mod Rule
 pub mod Passes

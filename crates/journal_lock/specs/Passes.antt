@@ -7,10 +7,11 @@ use Rattle.journal_lock.specs.declared.duty.Duty.{Duty}
 use Rattle.journal_lock.specs.declared.duty.Position.{Position}
 use Rattle.journal_lock.specs.declared.law.Note.{Note}
 
--- which lock it is, and what its journal is a run on
+-- which lock it is, what its journal is a run on, and how many positions in a row a maintainer owns
 pub record Lock : Type 0 where
   pub table : TableId
   pub workload : Workload
+  pub round : ℕ
 
 -- a pass: the beginning of the journal that it has seen, its duties, whether it failed, its notes, and the positions that it names
 pub record Ticket : Type 0 where

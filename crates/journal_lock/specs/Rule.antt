@@ -1,21 +1,25 @@
 -- The whole rule: its parts, each over the words, the slot and what of the views it speaks of.
-use Rattle.std.specs.Prelude.{◌≡◌, List, map, length, slice_index}
+use Rattle.std.specs.Prelude.{◌≡◌, ℕ, List, map, length, slice_index}
 use Rattle.abstract_log.specs.declared.command.Workload.{Workload}
 use Rattle.abstract_log.specs.declared.event.Event.{Event}
 use Rattle.abstract_log.specs.Shapes.{FitsWorkload}
 use Rattle.journal_lock.specs.declared.law.View.{View}
 use Rattle.journal_lock.specs.Law.{At, Locked, hold_of}
 use Rattle.journal_lock.specs.Notes.{Noted, notes_of}
+use Rattle.journal_lock.specs.Finds.{Worded, finding_of}
+use Rattle.journal_lock.specs.Marks.{Marked, placed_of}
 use Rattle.journal_lock.specs.Names.{Named, naming_of}
 
 -- the parts beside the lock's own
-pub record Sides (log : List Event) (views : List View) : Type 0 where
+pub record Sides (round : ℕ) (log : List Event) (words : List ℕ) (views : List View) : Type 0 where
   pub noted : Noted log (map notes_of views)
+  pub found : Worded log words (map finding_of views)
+  pub marked : Marked round words (map placed_of views)
   pub named : Named log (map naming_of views)
 
-pub record Keeps (load : Workload) (s : At) : Type 0 where
+pub record Keeps (load : Workload) (round : ℕ) (s : At) : Type 0 where
   pub fits : FitsWorkload load
   pub log : List Event
-  pub wide : length s.words ≡ 2
+  pub wide : length s.words ≡ 258
   pub lock : Locked load log (slice_index s.words 0) (slice_index s.words 1) s.homes (map hold_of s.views)
-  pub sides : Sides log s.views
+  pub sides : Sides round log s.words s.views

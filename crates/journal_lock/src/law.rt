@@ -41,6 +41,11 @@ pub enum Note {
     Met { count: u64 },
     /// The log of a datacentre had so many records.
     Length { dc: DcId, len: u64 },
+    /// A word of marks or epochs held so much.
+    Found { word: u64, value: u64 },
+    /// The word of an epoch held none when the log of its datacentre had so many records, so that each epoch that goes
+    /// there or later starts above them.
+    Ended { word: u64, len: u64 },
 }
 
 /// Positions in the journal, which no other pass names. No value of it is made.
@@ -58,16 +63,27 @@ pub struct View {
     pub names: Names,
 }
 
-/// Word 0 is the turn, 0 or 1, and word 1 counts the events. The slot holds the journal.
+/// What a journal's lock is made for, and no step changes.
+#[derive(Drop)]
+pub struct Plan {
+    /// What the journal is a run on.
+    pub workload: Workload,
+    /// How many positions in a row a maintainer owns.
+    pub round: u32,
+}
+
+/// Word 0 is the turn, 0 or 1, and word 1 counts the events. Then each maintainer of each datacentre has a word for its
+/// mark, and each datacentre has a word for each epoch that it may ever have, 0 until there is one. The slot holds the
+/// journal.
 pub(crate) struct Law;
 
-impl TableRule<Option<Journal>, View, Workload> for Law {
+impl TableRule<Option<Journal>, View, Plan> for Law {
     ghost use Rattle.journal_lock.specs.Law.{fresh};
     ghost use Rattle.journal_lock.specs.Rule.{Keeps};
 
-    ghost holds = { Keeps };
+    ghost holds = { λ plan. Keeps plan.workload plan.round };
 
-    ghost first = { fresh };
+    ghost first = { λ plan. fresh plan.workload };
 }
 
 pub(crate) struct Take;
@@ -108,6 +124,30 @@ impl Play<Option<Journal>, View> for Meet {
     ghost use Rattle.journal_lock.specs.Names.{Meets};
 
     ghost then = { Meets };
+}
+
+pub(crate) struct Look;
+
+impl Play<Option<Journal>, View> for Look {
+    ghost use Rattle.journal_lock.specs.Finds.{Looks};
+
+    ghost then = { Looks };
+}
+
+pub(crate) struct Read;
+
+impl Play<Option<Journal>, View> for Read {
+    ghost use Rattle.journal_lock.specs.Finds.{Reads};
+
+    ghost then = { Reads };
+}
+
+pub(crate) struct Write;
+
+impl Play<Option<Journal>, View> for Write {
+    ghost use Rattle.journal_lock.specs.Finds.{Writes};
+
+    ghost then = { Writes };
 }
 
 /// What goes to a new pass, for contracts alone: the caller picks it at the call.

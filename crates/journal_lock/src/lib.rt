@@ -5,19 +5,21 @@
 //! has seen. Who takes the turn is a `Holder`, has the whole journal in hand, and adds events for which it has the
 //! duties, each a step from the world that the journal leaves.
 //!
-//! Model: a table of two words, the turn and the number of events, and a slot for the journal. `specs/Law.antt`
-//! has the rule over these and over what all passes know. Sums over the passes say that each duty is with one.
+//! Model: a table of the turn, the number of events, a mark for each maintainer and the epochs of each datacentre, and
+//! a slot for the journal. `specs/Law.antt`, `specs/Finds.antt` and `specs/Marks.antt` have the rule over these and over
+//! what all passes know. Sums over the passes say that each duty is with one.
 //!
 //! For the layers above: the journal is a run on the workload, what a pass has seen is a beginning of it, and what
 //! a pass sees later has no event of its duties that it had not seen (`Within`). `close` asks for every duty, and
 //! gives just what that pass has seen. A position that an event stamps is named by one pass at most, at hand or
-//! placed. A call that only looks leaves a note of what it found.
+//! placed. A call that only looks leaves a note of what it found, and finds no less than its pass knew. A mark passes no
+//! position of its maintainer that is not placed, and each epoch starts above all that is stamped before it.
 //!
 //! Decided: a pass is joined in two steps, the join itself and a look at the count, since a join tells nothing of
 //! the rule. The workload stands in each pass too, since a step cannot read what the table was told. Duties move by
 //! numbers, which are different for different duties where datacentres are below 8 and members below 16.
 //!
-//! Not here yet: marks, epochs and what is known of heads; pins.
+//! Not here yet: what is known of heads; pins. A lock begins without epochs, and with marks of 0.
 //!
 //! `both` has a contract of two threads. There are no tests in this crate.
 #![tactic(auto)]
@@ -33,7 +35,7 @@ mod room;
 
 pub use both::{begin_both, begin_session};
 pub use duty::{Duty, Position};
-pub use law::{Change, Hold, Known, Names, Note, Part, Stage, View};
+pub use law::{Change, Hold, Known, Names, Note, Part, Plan, Stage, View};
 pub use lock::{Holder, JournalLock, Pass, Tried};
 pub use parts::{note_length, place_hand, split_bare, split_duty, split_session, split_whole};
 pub use room::Room;

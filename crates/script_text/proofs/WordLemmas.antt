@@ -1,20 +1,21 @@
 -- The first word of a line, the words after it, and the numbers that words spell.
 use Rattle.std.proofs.Common.{◌≡◌, ◌<◌, ◌≤◌, ◌^◌, ◌*◌, ℕ, ◌+◌, ◌-◌, suc, List, [], ◌∷◌, length, take, drop, get_or, refl, arith, Bool, true, false, zero, cond, ◌&&◌, ap, sym, ◌∙◌, add-one, drop-cons, lit<}
 use Rattle.std.proofs.Math.Nat.{pow-le-pow_right}
-use Rattle.std.proofs.lemmas.Str.{digit_value_digit}
+use Rattle.std.proofs.lemmas.Str.{digit_value_digit, IsUtf8-from_ascii}
 use Rattle.std.specs.Char.{digit_value}
 use Rattle.std.specs.Str.Parse.{digits_value_after}
 use Rattle.std.specs.Prelude.{Some, None, nat_lt, nat_le, ◌==◌, is_none, Ok, Err}
-use Rattle.std.specs.List.{position_or_len, position, list_all, count_by}
+use Rattle.std.specs.List.{position_or_len, position, list_all, count_by, onto_first}
+use Rattle.std.specs.Str.{IsUtf8}
 use Rattle.std.proofs.lemmas.Grind.{pow_more}
 use Rattle.std.proofs.lemmas.Bool.Decides.{nat_tests}
 use Rattle.std.proofs.lemmas.List.Splits.{slice_split_first, slice_split_none, length-slice_split}
 use Rattle.std.proofs.lemmas.List.Sums.{fails_before_first}
 use Rattle.cz_base.specs.Text.{first_bad, is_name_byte, is_body_byte}
 use Rattle.script_text.specs.declared.fault.Cause.TheVariants.{BadName, BadBody}
-use Rattle.script_text.specs.Words.{words, words_left, is_blank, is_digit}
+use Rattle.script_text.specs.Words.{words, words_left, is_blank, is_digit, is_line_byte}
 use Rattle.script_text.specs.Reading.{name_in, body_in}
-use Rattle.std.proofs.lemmas.Bool.{and_parts, and_right}
+use Rattle.std.proofs.lemmas.Bool.{and_from, and_parts, and_right, cond_both, leb-true}
 use Rattle.std.proofs.lemmas.List.{take_all, length-drop}
 use Rattle.std.proofs.lemmas.Option.{cond_some}
 use Rattle.cz_base.specs.declared.limits.TheConstants.{NAME_BYTES, BODY_BYTES}
@@ -90,3 +91,32 @@ small_more n i d small most = omega (arith, pow_more 10 i)
 pub body_in-bad_word : (word : List ℕ) (at : ℕ) → 1 ≤ length word → first_bad is_body_byte (take (length word - 1) (drop 1 word)) ≡ Some at → body_in word ≡ Err BadBody
 body_in-bad_word [] at some bad = absurd (omega arith)
 body_in-bad_word (sign ∷ bytes) at some bad = body_in-bad sign bytes at (ap (λ text. first_bad is_body_byte text) (sym (take_all (length (sign ∷ bytes) - 1) (drop 1 (sign ∷ bytes)) (omega (arith, length-drop 1 (sign ∷ bytes))))) ∙ bad)
+
+-- the bytes of each word are those of its line
+
+pub all_in_words : (line : List ℕ) → list_all is_line_byte line ≡ true → list_all (λ word. list_all is_line_byte word) (words line) ≡ true
+all_in_words [] good = refl
+all_in_words (b ∷ bs) good =
+    let parts = and_parts (is_line_byte b) (list_all is_line_byte bs) good in
+    let rest : list_all (λ word. list_all is_line_byte word) (words bs) ≡ true = all_in_words bs parts.1 in
+    cond_both (is_blank b) ([] ∷ words bs) (onto_first b (words bs)) (λ ws. list_all (λ word. list_all is_line_byte word) ws ≡ true) (λ _. rest) (λ _. onto_good (words bs) parts.0 rest)
+  where
+    onto_good : (ws : List (List ℕ)) → is_line_byte b ≡ true → list_all (λ word. list_all is_line_byte word) ws ≡ true → list_all (λ word. list_all is_line_byte word) (onto_first b ws) ≡ true
+    onto_good [] here all = ap (λ t. (t && true) && true) here
+    onto_good (w ∷ ws) here all = let both = and_parts (list_all is_line_byte w) (list_all (λ word. list_all is_line_byte word) ws) all in
+        and_from (is_line_byte b && list_all is_line_byte w) (list_all (λ word. list_all is_line_byte word) ws) (and_from (is_line_byte b) (list_all is_line_byte w) here both.0) both.1
+
+line_byte_small : (b : ℕ) → is_line_byte b ≡ true → b < 128
+line_byte_small b good = let small = and_parts (nat_le 32 b) (nat_le b 126) good in omega (arith, leb-true b 126 small.1)
+
+bytes_small : (word : List ℕ) (i : ℕ) → list_all is_line_byte word ≡ true → get_or word i 0 < 128
+bytes_small [] i good = omega arith
+bytes_small (b ∷ bs) zero good = line_byte_small b (and_parts (is_line_byte b) (list_all is_line_byte bs) good).0
+bytes_small (b ∷ bs) (suc i) good = bytes_small bs i (and_parts (is_line_byte b) (list_all is_line_byte bs) good).1
+
+-- so a word is a text
+pub word_is_text : (word : List ℕ) → list_all is_line_byte word ≡ true → IsUtf8 word
+word_is_text word good = IsUtf8-from_ascii word (λ i. bytes_small word i good)
+
+pub first_word_good : (ws : List (List ℕ)) (w : List ℕ) (more : List (List ℕ)) → ws ≡ w ∷ more → list_all (λ word. list_all is_line_byte word) ws ≡ true → list_all is_line_byte w ≡ true
+first_word_good ws w more is good = (and_parts (list_all is_line_byte w) (list_all (λ word. list_all is_line_byte word) more) (sym (ap (list_all (λ word. list_all is_line_byte word)) is) ∙ good)).0

@@ -3,8 +3,8 @@ use Rattle.std.specs.Prelude.{◌≡◌, ◌==◌, ℕ, ◌-◌, ◌&&◌, nat_l
 use Rattle.std.specs.List.{list_all}
 use Rattle.script_text.specs.declared.fault.Cause.{Cause}
 use Rattle.script_text.specs.declared.fault.Cause.TheVariants.{WrongWords, BadDatacentre, BadNumber, OutOfRange, BadName, BadBody}
-use Rattle.script_text.specs.declared.fault.LineFault.{LineFault}
-use Rattle.script_text.specs.declared.fault.LineFault.TheVariants as faults
+use Rattle.script_text.specs.declared.fault.ReadFault.{ReadFault}
+use Rattle.script_text.specs.declared.fault.ReadFault.TheVariants as faults
 use Rattle.script_text.specs.Words.{is_number, number_of, is_datacentre, is_name, is_body}
 
 -- the greatest number of 32 bits, in which numbers of a script are kept
@@ -18,11 +18,11 @@ abbrev pub ◌>>=◌ : {A B E : Type 0} → Result A E → (A → Result B E) �
 (Err e) >>= f = Err e
 
 -- what a call on one line answered is what the definition gives, unless memory ran out
-abbrev pub Fails : {Y : Type 0} → LineFault → Result Y Cause → Type 0
+abbrev pub Fails : {Y : Type 0} → ReadFault → Result Y Cause → Type 0
 Fails faults.NoMemory read = Unit {0}
 Fails (faults.Bad cause) read = read ≡ Err cause
 
-abbrev pub Gives : {X Y : Type 0} → (X → Y) → Result X LineFault → Result Y Cause → Type 0
+abbrev pub Gives : {X Y : Type 0} → (X → Y) → Result X ReadFault → Result Y Cause → Type 0
 Gives view (Ok x) read = read ≡ Ok (view x)
 Gives view (Err fault) read = Fails fault read
 

@@ -1,7 +1,7 @@
 //! Why a script is refused: the cause, and the line that has it.
 
 ghost use Rattle.std.specs.Prelude.{◌≡◌};
-ghost use Rattle.script_text.specs.declared.fault.LineFault.TheVariants.{Bad as BadLine, NoMemory as OutOfMemory};
+ghost use Rattle.script_text.specs.declared.fault.ReadFault.TheVariants.{Bad as BadLine, NoMemory as OutOfMemory};
 
 use cz_base::{Back, NoMemory};
 use std::alloc::AllocError;
@@ -73,41 +73,41 @@ pub enum ScriptFault {
 
 /// Why one line is not read.
 #[derive(Clone, Copy, Debug, PartialEq, Eq)]
-pub enum LineFault {
+pub enum ReadFault {
     /// It is refused.
     Bad(Cause),
     /// There was no memory for what it says.
     NoMemory,
 }
 
-impl From<Cause> for LineFault {
+impl From<Cause> for ReadFault {
     ghost from_gives = { λ cause fault. fault ≡ BadLine cause };
 
     fn from(cause: Cause) -> Self {
-        LineFault::Bad(cause)
+        ReadFault::Bad(cause)
     }
 }
 
-impl From<AllocError> for LineFault {
+impl From<AllocError> for ReadFault {
     ghost from_gives = { λ _ fault. fault ≡ OutOfMemory };
 
     fn from(_: AllocError) -> Self {
-        LineFault::NoMemory
+        ReadFault::NoMemory
     }
 }
 
-impl From<NoMemory> for LineFault {
+impl From<NoMemory> for ReadFault {
     ghost from_gives = { λ _ fault. fault ≡ OutOfMemory };
 
     fn from(_: NoMemory) -> Self {
-        LineFault::NoMemory
+        ReadFault::NoMemory
     }
 }
 
-impl<T: Drop> From<Back<T>> for LineFault {
+impl<T: Drop> From<Back<T>> for ReadFault {
     ghost from_gives = { λ _ fault. fault ≡ OutOfMemory };
 
     fn from(_: Back<T>) -> Self {
-        LineFault::NoMemory
+        ReadFault::NoMemory
     }
 }

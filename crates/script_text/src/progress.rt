@@ -1,16 +1,17 @@
 //! What the lines of a script have said so far, and what the next one adds.
 
 ghost use Rattle.std.specs.Prelude.{◌≡◌, ◌==◌, IfOk};
-ghost use Rattle.std.specs.List.{list_all, list_any, find};
+ghost use Rattle.std.specs.List.{list_any, find};
 ghost use Rattle.script_text.specs.Words.{words, is_line_byte, is_empty_word};
 ghost use Rattle.script_text.specs.Reading.{Gives, Reads};
 ghost use Rattle.script_text.specs.Meaning.{start, chariots_line, datacentres_line, round_line, sizes_at, stages_line, session_line, append_line, put_line, get_line, tx_line, read_line, last_line, with_command, command_meaning, with_step, turn_line, meaning, words_after, line_after, is_full, is_given, is_passed_over, sizes_given, script_said};
 
 use crate::arguments::{read_arguments, step_said};
-use crate::fault::{Cause, LineFault};
+use crate::fault::{Cause, ReadFault};
 use crate::keyword::{CommandWord, Keyword, TurnWord};
 use crate::members::{Addition, StepList, added_by};
 use crate::section::Section;
+use crate::shared::{has_empty_word, has_line_bytes, is_passed_over};
 use crate::words::Words;
 use abstract_log::{Command, Script, SessionPlan, Sizes, Step, Workload};
 use cz_base::limits::{COMMANDS, DATACENTRES, LAST_RECORDS, MEMBERS, ROUND, SESSIONS, STEPS};
@@ -104,13 +105,13 @@ impl Progress {
 
     // The numbers of members of the stages of one datacentre, at most once each.
     #[tactic(auto, unfolding(crate::specs::Meaning::stages_line))]
-    fn stages(&mut self, words: &mut Words<'_>) -> Result<(), LineFault>
+    fn stages(&mut self, words: &mut Words<'_>) -> Result<(), ReadFault>
         ensures { Gives (λ _. self.new) result (stages_line self.old words.old) }
     {
         let dc = words.datacentre(self.dcs)?;
         let sizes = read_sizes(words)?;
         if is_given(&self.stages, dc) {
-            return Err(LineFault::Bad(Cause::GivenTwice));
+            return Err(ReadFault::Bad(Cause::GivenTwice));
         }
         self.stages.push(Stages { dc, sizes })?;
         Ok(())
@@ -118,12 +119,12 @@ impl Progress {
 
     // One more session, at its datacentre.
     #[tactic(auto, unfolding(crate::specs::Meaning::session_line))]
-    fn session(&mut self, words: &mut Words<'_>) -> Result<(), LineFault>
+    fn session(&mut self, words: &mut Words<'_>) -> Result<(), ReadFault>
         ensures { Gives (λ _. self.new) result (session_line self.old words.old) }
     {
         let home = words.datacentre(self.dcs)?;
         if self.sessions.len() == SESSIONS {
-            return Err(LineFault::Bad(Cause::TooMany));
+            return Err(ReadFault::Bad(Cause::TooMany));
         }
         let commands = Seq::new(self.sessions.alloc());
         self.sessions.push(SessionPlan { home, commands })?;
@@ -133,7 +134,7 @@ impl Progress {
 
     // A command that appends a record.
     #[tactic(auto, unfolding(crate::specs::Meaning::append_line))]
-    fn append(&mut self, words: &mut Words<'_>) -> Result<(), LineFault>
+    fn append(&mut self, words: &mut Words<'_>) -> Result<(), ReadFault>
         ensures { Gives (λ _. self.new) result (append_line self.old words.old) }
     {
         let alloc = self.sessions.alloc();
@@ -144,7 +145,7 @@ impl Progress {
 
     // A command that writes a key.
     #[tactic(auto, unfolding(crate::specs::Meaning::put_line))]
-    fn put(&mut self, words: &mut Words<'_>) -> Result<(), LineFault>
+    fn put(&mut self, words: &mut Words<'_>) -> Result<(), ReadFault>
         ensures { Gives (λ _. self.new) result (put_line self.old words.old) }
     {
         let alloc = self.sessions.alloc();
@@ -155,7 +156,7 @@ impl Progress {
 
     // A command that reads a key.
     #[tactic(auto, unfolding(crate::specs::Meaning::get_line))]
-    fn get(&mut self, words: &mut Words<'_>) -> Result<(), LineFault>
+    fn get(&mut self, words: &mut Words<'_>) -> Result<(), ReadFault>
         ensures { Gives (λ _. self.new) result (get_line self.old words.old) }
     {
         let alloc = self.sessions.alloc();
@@ -165,7 +166,7 @@ impl Progress {
 
     // A command that reads several keys.
     #[tactic(auto, unfolding(crate::specs::Meaning::tx_line))]
-    fn tx(&mut self, words: &mut Words<'_>) -> Result<(), LineFault>
+    fn tx(&mut self, words: &mut Words<'_>) -> Result<(), ReadFault>
         ensures { Gives (λ _. self.new) result (tx_line self.old words.old) }
     {
         let alloc = self.sessions.alloc();
@@ -175,7 +176,7 @@ impl Progress {
 
     // A command that reads a position.
     #[tactic(auto, unfolding(crate::specs::Meaning::read_line))]
-    fn read(&mut self, words: &mut Words<'_>) -> Result<(), LineFault>
+    fn read(&mut self, words: &mut Words<'_>) -> Result<(), ReadFault>
         ensures { Gives (λ _. self.new) result (read_line self.old words.old) }
     {
         let lid = words.number(1, u32::MAX)?;
@@ -186,7 +187,7 @@ impl Progress {
 
     // A command that reads the last records with a tag.
     #[tactic(auto, unfolding(crate::specs::Meaning::last_line))]
-    fn last(&mut self, words: &mut Words<'_>) -> Result<(), LineFault>
+    fn last(&mut self, words: &mut Words<'_>) -> Result<(), ReadFault>
         ensures { Gives (λ _. self.new) result (last_line self.old words.old) }
     {
         let alloc = self.sessions.alloc();
@@ -197,14 +198,14 @@ impl Progress {
 
     // The next command of the session that began last.
     #[tactic(auto, unfolding(crate::specs::Meaning::with_command))]
-    fn put_command(&mut self, command: Command) -> Result<(), LineFault>
+    fn put_command(&mut self, command: Command) -> Result<(), ReadFault>
         ensures { Gives (λ _. self.new) result (with_command self.old command) }
     {
         if self.commands >= COMMANDS {
-            return Err(LineFault::Bad(Cause::TooMany));
+            return Err(ReadFault::Bad(Cause::TooMany));
         }
         let Some(mut plan) = self.sessions.pop() else {
-            return Err(LineFault::Bad(Cause::OutOfPlace));
+            return Err(ReadFault::Bad(Cause::OutOfPlace));
         };
         plan.commands.push(command)?;
         self.sessions.push(plan)?;
@@ -214,7 +215,7 @@ impl Progress {
 
     // A step, by its word and the words behind it.
     #[tactic(auto, unfolding(crate::specs::Meaning::turn_line))]
-    fn turn(&mut self, word: TurnWord, words: &mut Words<'_>) -> Result<(), LineFault>
+    fn turn(&mut self, word: TurnWord, words: &mut Words<'_>) -> Result<(), ReadFault>
         ensures { Gives (λ _. self.new) result (turn_line self.old word words.old) }
     {
         let given = read_arguments(word.arguments(), self.dcs, self.sessions.len(), words)?;
@@ -223,11 +224,11 @@ impl Progress {
 
     // The next step.
     #[tactic(auto, unfolding(crate::specs::Meaning::with_step))]
-    fn put_step(&mut self, step: Step) -> Result<(), LineFault>
+    fn put_step(&mut self, step: Step) -> Result<(), ReadFault>
         ensures { Gives (λ _. self.new) result (with_step self.old step) }
     {
         if self.steps.len() >= STEPS || self.is_full(added_by(&step)) {
-            return Err(LineFault::Bad(Cause::TooMany));
+            return Err(ReadFault::Bad(Cause::TooMany));
         }
         self.steps.push(step)?;
         Ok(())
@@ -246,7 +247,7 @@ impl Progress {
     }
 
     // One line, but for its first word, whose place and number of words are right.
-    fn line(&mut self, keyword: Keyword, words: &mut Words<'_>) -> Result<(), LineFault>
+    fn line(&mut self, keyword: Keyword, words: &mut Words<'_>) -> Result<(), ReadFault>
         ensures { Gives (λ _. self.new) result (meaning self.old keyword words.old) }
     {
         match keyword {
@@ -264,7 +265,7 @@ impl Progress {
     }
 
     // A command, by its word and the words behind it.
-    fn command(&mut self, word: CommandWord, words: &mut Words<'_>) -> Result<(), LineFault>
+    fn command(&mut self, word: CommandWord, words: &mut Words<'_>) -> Result<(), ReadFault>
         ensures { Gives (λ _. self.new) result (command_meaning self.old word words.old) }
     {
         match word {
@@ -279,42 +280,42 @@ impl Progress {
 
     // The next line, by its words.
     #[tactic(auto, unfolding(crate::specs::Meaning::words_after))]
-    fn take_words(&mut self, words: &mut Words<'_>) -> Result<(), LineFault>
+    fn take_words(&mut self, words: &mut Words<'_>) -> Result<(), ReadFault>
         ensures { Gives (λ _. self.new) result (words_after self.old words.old) }
     {
         let Some(first) = words.next_word() else {
-            return Err(LineFault::Bad(Cause::UnknownWord));
+            return Err(ReadFault::Bad(Cause::UnknownWord));
         };
         let Some(keyword) = Keyword::find(first) else {
-            return Err(LineFault::Bad(Cause::UnknownWord));
+            return Err(ReadFault::Bad(Cause::UnknownWord));
         };
         if !keyword.stands(self.section) {
-            return Err(LineFault::Bad(Cause::OutOfPlace));
+            return Err(ReadFault::Bad(Cause::OutOfPlace));
         }
         let (least, most) = keyword.words();
         let count = words.len();
         if count < least || most < count {
-            return Err(LineFault::Bad(Cause::WrongWords));
+            return Err(ReadFault::Bad(Cause::WrongWords));
         }
         self.line(keyword, words)
     }
 
     /// The next line.
     #[tactic(auto, unfolding(crate::specs::Meaning::line_after))]
-    pub fn take_line(&mut self, line: &[u8]) -> Result<(), LineFault>
+    pub fn take_line(&mut self, line: &[u8]) -> Result<(), ReadFault>
         ensures { Gives (λ _. self.new) result (line_after self.old line.now) }
     {
         if !has_line_bytes(line) {
-            return Err(LineFault::Bad(Cause::BadByte));
+            return Err(ReadFault::Bad(Cause::BadByte));
         }
         if is_passed_over(line) {
             return Ok(());
         }
         if has_empty_word(line) {
-            return Err(LineFault::Bad(Cause::BadSpacing));
+            return Err(ReadFault::Bad(Cause::BadSpacing));
         }
         if self.section.is_ended() {
-            return Err(LineFault::Bad(Cause::AfterEnd));
+            return Err(ReadFault::Bad(Cause::AfterEnd));
         }
         self.take_words(&mut Words::new(line))
     }
@@ -394,40 +395,4 @@ fn given_at(stages: &[Stages], number: u32) -> Option<Stages>
         }
     }
     None
-}
-
-// Whether each byte of a line is one that a line may have.
-fn has_line_bytes(line: &[u8]) -> bool
-    ensures { result ≡ list_all is_line_byte line.now }
-{
-    line.iter().all(|b| is_line_byte(*b))
-}
-
-fn is_line_byte(byte: u8) -> bool
-    ensures { result ≡ is_line_byte byte }
-{
-    matches!(byte, 0x20..=0x7E)
-}
-
-// Whether a line says nothing: it is empty or a comment.
-fn is_passed_over(line: &[u8]) -> bool
-    ensures { result ≡ is_passed_over line.now }
-{
-    match line {
-        [] => true,
-        [first, ..] => *first == b'#',
-    }
-}
-
-// Whether two blanks stand side by side in a line, or one at an end.
-fn has_empty_word(line: &[u8]) -> bool
-    ensures { result ≡ list_any is_empty_word (words line.now) }
-{
-    let mut left = Words::new(line);
-    while let Some(word) = left.next_word() {
-        if word.is_empty() {
-            return true;
-        }
-    }
-    false
 }

@@ -11,7 +11,7 @@ ghost use Rattle.abstract_log.specs.declared.script.Script.{Script};
 ghost use Rattle.script_text.specs.declared.fault.Cause.{Cause};
 
 use crate::Lines;
-use crate::fault::{Cause, LineFault, ScriptFault};
+use crate::fault::{Cause, ReadFault, ScriptFault};
 use crate::progress::Progress;
 use abstract_log::Script;
 use std::alloc::Global;
@@ -52,8 +52,8 @@ fn read_lines(alloc: Global, bytes: &[u8]) -> Result<Script, ScriptFault>
     while let Some(text) = left.next_line() {
         match progress.take_line(text) {
             Ok(()) => {}
-            Err(LineFault::Bad(cause)) => return Err(ScriptFault::Bad { line, cause }),
-            Err(LineFault::NoMemory) => return Err(ScriptFault::NoMemory),
+            Err(ReadFault::Bad(cause)) => return Err(ScriptFault::Bad { line, cause }),
+            Err(ReadFault::NoMemory) => return Err(ScriptFault::NoMemory),
         }
         line = line.saturating_add(1);
     }

@@ -5,7 +5,7 @@ ghost use Rattle.std.specs.List.{position, list_all, count_by};
 ghost use Rattle.script_text.specs.Words.{words, is_blank, is_digit, is_number, number_of, is_datacentre};
 ghost use Rattle.script_text.specs.Reading.{Gives, Reads, number_in, number_at, number_below_at, datacentre_at, other_datacentre_at, body_at, body_in, names_in, name_in, name_at};
 
-use crate::fault::{Cause, LineFault};
+use crate::fault::{Cause, ReadFault};
 use cz_base::{Body, BodyFault, DcId, Name, NameFault, Seq};
 use std::alloc::Global;
 use std::marker::Model;
@@ -116,29 +116,29 @@ impl<'a> Words<'a> {
 
     /// The next word as a name.
     #[tactic(auto, unfolding(crate::specs::Reading::name_at))]
-    pub fn name(&mut self, alloc: Global) -> Result<Name, LineFault>
+    pub fn name(&mut self, alloc: Global) -> Result<Name, ReadFault>
         ensures { Gives (λ name. (name, self.new)) result (name_at self.old) }
     {
         let Some(word) = self.next_word() else {
-            return Err(LineFault::Bad(Cause::WrongWords));
+            return Err(ReadFault::Bad(Cause::WrongWords));
         };
         read_name(alloc, word)
     }
 
     /// The next word as a body.
     #[tactic(auto, unfolding(crate::specs::Reading::body_at))]
-    pub fn body(&mut self, alloc: Global) -> Result<Body, LineFault>
+    pub fn body(&mut self, alloc: Global) -> Result<Body, ReadFault>
         ensures { Gives (λ body. (body, self.new)) result (body_at self.old) }
     {
         let Some(word) = self.next_word() else {
-            return Err(LineFault::Bad(Cause::WrongWords));
+            return Err(ReadFault::Bad(Cause::WrongWords));
         };
         read_body(alloc, word)
     }
 
     /// All words that are left as names.
     #[tactic(auto, unfolding(crate::specs::Reading::names_in))]
-    pub fn names(&mut self, alloc: Global) -> Result<Seq<Name>, LineFault>
+    pub fn names(&mut self, alloc: Global) -> Result<Seq<Name>, ReadFault>
         ensures names { Gives (λ names. names) result (names_in self.old) }
         ensures left { IfOk result (λ _. self.new ≡ []) }
     {
@@ -165,29 +165,29 @@ fn blanks(text: &[u8]) -> usize
 }
 
 // The name that a word spells.
-fn read_name(alloc: Global, word: &[u8]) -> Result<Name, LineFault>
+fn read_name(alloc: Global, word: &[u8]) -> Result<Name, ReadFault>
     ensures { Gives (λ name. name) result (name_in word.now) }
 {
     match Name::read(alloc, word) {
         Ok(name) => Ok(name),
-        Err(NameFault::NoMemory) => Err(LineFault::NoMemory),
-        Err(NameFault::Length) => Err(LineFault::Bad(Cause::BadName)),
-        Err(NameFault::Byte { .. }) => Err(LineFault::Bad(Cause::BadName)),
+        Err(NameFault::NoMemory) => Err(ReadFault::NoMemory),
+        Err(NameFault::Length) => Err(ReadFault::Bad(Cause::BadName)),
+        Err(NameFault::Byte { .. }) => Err(ReadFault::Bad(Cause::BadName)),
     }
 }
 
 // The body that a word spells.
-fn read_body(alloc: Global, word: &[u8]) -> Result<Body, LineFault>
+fn read_body(alloc: Global, word: &[u8]) -> Result<Body, ReadFault>
     ensures { Gives (λ body. body) result (body_in word.now) }
 {
     let [b'=', bytes @ ..] = word else {
-        return Err(LineFault::Bad(Cause::BadBody));
+        return Err(ReadFault::Bad(Cause::BadBody));
     };
     match Body::read(alloc, bytes) {
         Ok(body) => Ok(body),
-        Err(BodyFault::NoMemory) => Err(LineFault::NoMemory),
-        Err(BodyFault::Length) => Err(LineFault::Bad(Cause::BadBody)),
-        Err(BodyFault::Byte { .. }) => Err(LineFault::Bad(Cause::BadBody)),
+        Err(BodyFault::NoMemory) => Err(ReadFault::NoMemory),
+        Err(BodyFault::Length) => Err(ReadFault::Bad(Cause::BadBody)),
+        Err(BodyFault::Byte { .. }) => Err(ReadFault::Bad(Cause::BadBody)),
     }
 }
 

@@ -48,10 +48,10 @@ module _ (n : ℕ) (z : Datacentre) (h : HasTurns (suc n) z) where
       cond_both (is_past a.host a.mark (filter_at z.filters a.next)) (quiet (LateAt a.next (get_or (filter_at z.filters a.next).reached a.host 0)) (cancel_all z)) (quiet (AcceptedBy a.next) (accept_next z a))
       (λ (t : Turned). HasTurns n t.after) (λ _ b is. absurd (cc))
       (λ _ b is.
-        let same : asked_next a ≡ b = cc in
-        let next : a.next + 1 ≡ b.next = ap (λ (x : Announcement). x.next) same in
-        let size : length (accepted_next a z.filters) ≡ length z.filters = length-set z.filters a.next _ in
-        (omega (arith, (h a on).1, low), omega (arith, (h a on).1, next, size)))
+      let same : asked_next a ≡ b = cc in
+      let next : a.next + 1 ≡ b.next = ap (λ (x : Announcement). x.next) same in
+      let size : length (accepted_next a z.filters) ≡ length z.filters = length-set z.filters a.next _ in
+      (omega (arith, (h a on).1, low), omega (arith, (h a on).1, next, size)))
 
   one_turn : HasTurns n (mark_turn z).after
   one_turn = at z.announcement refl

@@ -3,6 +3,7 @@ pub mod StampedItems
 pub mod AckLemmas
 pub mod RingLemmas
 pub mod JoiningLemmas
+pub mod MarkingLemmas
 pub mod StampLemmas
 pub mod StampStands
 pub mod StampTurns

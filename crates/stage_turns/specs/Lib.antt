@@ -12,3 +12,4 @@ pub mod Told
 pub mod Rising
 pub mod Collecting
 pub mod Joining
+pub mod Marking

@@ -19,7 +19,8 @@ use Rattle.toid_filter.specs.Champions.{grown, last_share, last_of_shares, sole_
 use Rattle.toid_filter.specs.Filters.{FilterState, Announcement, no_filter, new_filter, filter_at, times_passed, is_past, cancelled, activated, handed_out, AreSound}
 use Rattle.toid_filter.specs.Marks.{mark_of, asked_next, grown_by, filters_grown}
 use Rattle.toid_filter.proofs.SumLemmas.{AllKeep, kept_sums, kept_passing, kept_held, sum_by-map_external}
-use Rattle.toid_filter.proofs.MarkLemmas.{last_of_shares-push, cancels, accepted_sound, cancelled_sound, shares_of, All-handed, all_activated, grown_sound, grown_sums, grown_passed, grown_held, grown_out}
+use Rattle.toid_filter.proofs.MarkLemmas.{cancels, accepted_sound, cancelled_sound, shares_of, All-handed, all_activated, grown_sound, grown_sums, grown_passed, grown_held, grown_out}
+use Rattle.toid_filter.proofs.ShareLemmas.{last_of_shares-push}
 use Rattle.stage_world.specs.Stages.{Datacentre, in_batchers}
 use Rattle.toid_filter.specs.Sums.{is_named}
 use Rattle.stage_world.specs.Turns.{quiet, taken_by}

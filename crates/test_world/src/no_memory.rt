@@ -1,7 +1,7 @@
 //! A turn for which there is no memory, and the turn after it.
 
 ghost use Rattle.std.specs.Prelude.{◌≡◌};
-ghost use Rattle.abstract_log.specs.Turns.{IsBuiltStep, IsStep};
+ghost use Rattle.abstract_log.specs.Turns.{IsStep};
 
 use crate::steps::may_take;
 use abstract_log::{Step, Workload};
@@ -40,7 +40,6 @@ const SCRIPT: &[u8] = b"\
 // Takes a step twice, and tells whether there was memory for the second. Where there was none for the first, there is none for it.
 fn take_twice(rt: &impl Abort, stages: &mut Stages, step: &Step) -> bool
     requires step { IsStep stages.old.workload step.now }
-    requires built { IsBuiltStep step.now }
     ensures { stages.new.workload ≡ stages.old.workload }
 {
     let first = stages.turn(step);

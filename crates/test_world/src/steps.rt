@@ -2,15 +2,15 @@
 
 ghost use Rattle.std.specs.Prelude.{IsTrue};
 ghost use Rattle.std.specs.List.{All};
-ghost use Rattle.abstract_log.specs.Turns.{AreTwo, IsBuiltStep, IsStep};
+ghost use Rattle.abstract_log.specs.Turns.{AreTwo, IsStep};
 
 use abstract_log::{Step, Workload};
 use cz_base::DcId;
+use cz_base::limits::NUMBERS_END;
 
 /// Whether the step is one that these stages may take.
 pub(crate) fn may_take(workload: &Workload, step: &Step) -> bool
-    ensures step { IsTrue result → IsStep workload.now step.now }
-    ensures built { IsTrue result → IsBuiltStep step.now }
+    ensures { IsTrue result → IsStep workload.now step.now }
 {
     let dcs = workload.dcs;
     match *step {
@@ -29,7 +29,13 @@ pub(crate) fn may_take(workload: &Workload, step: &Step) -> bool
         Step::Deliver { d, e, k: _, r: _ } => are_two(dcs, d, e),
         Step::Lose { d, e, k: _ } => are_two(dcs, d, e),
         Step::Copy { d, e, k: _ } => are_two(dcs, d, e),
-        _ => false,
+        Step::Announce { d, h, t: _ } => are_two(dcs, d, h),
+        Step::AddMaintainer { d, p } => d.number() < dcs && p < NUMBERS_END,
+        Step::Mark { d } => d.number() < dcs,
+        Step::AddBatcher { d } => d.number() < dcs,
+        Step::AddQueue { d } => d.number() < dcs,
+        Step::AddSender { d } => d.number() < dcs,
+        Step::AddReceiver { d } => d.number() < dcs,
     }
 }
 
@@ -41,8 +47,7 @@ fn are_two(dcs: u32, d: DcId, e: DcId) -> bool
 
 /// Whether stages may take these steps.
 pub(crate) fn may_take_all(workload: &Workload, steps: &[Step]) -> bool
-    ensures steps { IsTrue result → All (IsStep workload.now) steps.now }
-    ensures built { IsTrue result → All IsBuiltStep steps.now }
+    ensures { IsTrue result → All (IsStep workload.now) steps.now }
 {
     for step in steps {
         if !may_take(workload, step) {

@@ -35,7 +35,7 @@ pub(crate) fn marks(alloc: Global, dcs: u32) -> Result<Seq<Step>, NoMemory>
 fn add_marks(steps: &mut Seq<Step>, d: DcId) -> Result<(), NoMemory>
     ensures { OnOk result (steps.new ≡ steps.old ++ marks d) }
 {
-    for _turn in 0..MARK_TURNS {
+    for _done in 0..MARK_TURNS {
         steps.push(Step::Mark { d })?;
     }
     Ok(())

@@ -1,5 +1,4 @@
-use Rattle.std.proofs.Common.{arith, ap, ◌∙◌}
-use Rattle.stage_world.specs.Stages.{Datacentre}
+use Rattle.std.proofs.Common.{arith, ◌∙◌}
 use Rattle.datacentre.proofs.LiveLemmas.{at_of, few_of}
 use Rattle.datacentre.proofs.datacentre.Datacentre.holder.Goals as goal
 

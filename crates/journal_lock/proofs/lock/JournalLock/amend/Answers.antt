@@ -8,5 +8,5 @@ pub load-requires : goal.load-requires
 load-requires g c = (
   search rules,
   omega (arith, c.self.invariant.0),
-  amend_step _ _ _ _ g.C.Change.placed g.C.Change.lengths (subst (λ (l : List Position). Among place g.C.Change.placed l) (sym (ap (λ t. t.hand) c.pass.view_is)) c.requires.hand),
+  amend_step _ _ _ _ _ g.C.Change.placed g.C.Change.lengths (subst (λ (l : List Position). Among place g.C.Change.placed l) (sym (ap (λ t. t.hand) c.pass.view_is)) c.requires.hand),
 )

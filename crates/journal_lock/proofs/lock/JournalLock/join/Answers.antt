@@ -13,11 +13,11 @@ join_seat-requires c = (
   search rules,
   c.other.invariant.empty,
   omega (arith, c.self.invariant.0),
-  join_step _ _ _ c.pass.invariant.stage _ _ c.other.invariant.stage,
+  join_step _ _ _ _ c.pass.invariant.stage _ _ c.other.invariant.stage,
 )
 
 pub load-requires : goal.load-requires
-load-requires c = (search rules, omega (arith, c.self.invariant.0), learn_step _ _ _ _)
+load-requires c = (search rules, omega (arith, c.self.invariant.0), learn_step _ _ _ _ _)
 
 pub returns-clause-one : goal.returns-clause-one
 returns-clause-one c =

@@ -6,7 +6,7 @@ use Rattle.journal_lock.proofs.Steps.{meet_step}
 use Rattle.journal_lock.proofs.lock.JournalLock.meet.Goals as goal
 
 pub load-requires : goal.load-requires
-load-requires c = (search rules, omega (arith, c.self.invariant.0), meet_step _ _ _ _)
+load-requires c = (search rules, omega (arith, c.self.invariant.0), meet_step _ _ _ _ _)
 
 pub returns-clause-named : goal.returns-clause-named
 returns-clause-named c = subst (λ (t : Ticket). IsNamed t.seen (names t.hand t.placed)) c.pass.view_is c.load.ensures.2.1

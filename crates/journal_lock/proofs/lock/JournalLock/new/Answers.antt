@@ -1,4 +1,4 @@
-use Rattle.std.proofs.Common.{rules, ◌≡◌, List, sym, subst, Some, Option, [], ◌∷◌}
+use Rattle.std.proofs.Common.{rules, ◌≡◌, ℕ, List, sym, subst, replicate, Some, Option, [], ◌∷◌}
 use Rattle.atomic_table.specs.Table.{opening}
 use Rattle.journal_lock.specs.Law.{Book, fresh}
 use Rattle.journal_lock.specs.Rule.{Keeps}
@@ -10,4 +10,5 @@ pub new-requires-2 : goal.new-requires-2
 new-requires-2 c =
     let load = c.args.workload in let w = c.new.result in
     let items : c.push_reserved.new.self.items ≡ Some w ∷ [] = search rules in
-    subst (λ (z : List (Option Book)). Keeps load (opening (0 ∷ 0 ∷ []) z (fresh load))) (sym items) (first_state load c.requires w (each_once load c.requires.few) c.new.ensures tt)
+    let words : c.as_slice.result.now ≡ replicate 258 0 = search rules in
+    subst (λ (z : List ℕ × List (Option Book)). Keeps load c.args.round (opening z.0 z.1 (fresh load))) (λ i. (sym words i, sym items i)) (first_state load c.args.round c.requires w (each_once load c.requires.few) c.new.ensures tt)

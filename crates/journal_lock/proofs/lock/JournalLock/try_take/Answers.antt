@@ -11,7 +11,7 @@ use Rattle.journal_lock.proofs.Steps.{take_step, book_in, book_at}
 use Rattle.journal_lock.proofs.lock.JournalLock.try_take.Goals as goal
 
 pub compare_exchange-word-requires : goal.compare_exchange-word-requires
-compare_exchange-word-requires c = (search rules, omega (arith, c.self.invariant.0), take_step _ _ _ _ c.pass.invariant.stage (subst HasDuty (sym (ap (λ t. t.duties) c.pass.view_is)) c.requires.duty))
+compare_exchange-word-requires c = (search rules, omega (arith, c.self.invariant.0), take_step _ _ _ _ _ c.pass.invariant.stage (subst HasDuty (sym (ap (λ t. t.duties) c.pass.view_is)) c.requires.duty))
 
 pub exchange-slot-requires : goal.exchange-slot-requires
 exchange-slot-requires c =

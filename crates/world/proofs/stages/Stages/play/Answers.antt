@@ -6,7 +6,7 @@ pub loop-step-init : goal.loop-step-init
 loop-step-init c = plays_none _
 
 pub take-requires : goal.take-requires
-take-requires c = item_may _ _ _ _ _ _ c.loop-step.invariant c.requires.taken c.requires.may c.loop-step-test.true c.step-item.is
+take-requires c = record { step = item_may _ _ _ _ _ _ c.loop-step.invariant c.requires.taken c.requires.may c.loop-step-test.true c.step-item.is }
 
 pub loop-step-preserved : goal.loop-step-preserved
 loop-step-preserved c = plays_next _ _ _ _ _ _ c.loop-step-test.true c.step-item.is c.loop-step.invariant (plays_one _ _ _ c.in_ok-take.ensures.taken)

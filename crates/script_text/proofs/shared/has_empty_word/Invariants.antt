@@ -2,7 +2,7 @@
 use Rattle.std.proofs.Common.{◌≡◌, length}
 use Rattle.std.specs.List.{list_any}
 use Rattle.script_text.specs.Words.{words, is_empty_word}
-use Rattle.script_text.proofs.progress.has_empty_word.Given as goal
+use Rattle.script_text.proofs.shared.has_empty_word.Given as goal
 
 -- no word so far was empty
 abbrev pub invariant-loop-word : goal.invariant-loop-word
