@@ -7,4 +7,6 @@
 #[cfg(test)]
 mod filters;
 #[cfg(test)]
+mod marks;
+#[cfg(test)]
 mod parcels;
