@@ -1,6 +1,6 @@
 //! Rows of filters: which numbers each takes, and what it then passes on.
 
-ghost use Rattle.std.specs.Prelude.{◌≤◌};
+ghost use Rattle.std.specs.Prelude.{◌≡◌, ◌≤◌};
 
 use causal_deps::{Counts, Draft, Item, Kind, Record};
 use cz_base::{Body, DcId, NoMemory, Seq, Toid};
@@ -11,13 +11,13 @@ use toid_filter::{Champions, Filter, Verdict};
 
 // All rows are of three datacentres, and of records of host 1: where so many filters share it, filter f
 // gets each number that leaves the remainder f.
-const DCS: u32 = 3;
+pub(crate) const DCS: u32 = 3;
 
-const PASSED: Option<Verdict> = Some(Verdict::Passed);
+pub(crate) const PASSED: Option<Verdict> = Some(Verdict::Passed);
 
-const HELD: Option<Verdict> = Some(Verdict::Held);
+pub(crate) const HELD: Option<Verdict> = Some(Verdict::Held);
 
-const DROPPED: Option<Verdict> = Some(Verdict::Dropped);
+pub(crate) const DROPPED: Option<Verdict> = Some(Verdict::Dropped);
 
 // Numbers that one of two filters is offered in turn, each with what it does with it, `None` where the
 // number is not its own; and the numbers that it then passes on.
@@ -79,7 +79,9 @@ const SHARED: [Part; 7] = [
     },
 ];
 
-fn host() -> DcId {
+pub(crate) fn host() -> DcId
+    ensures { result ≡ 1 }
+{
     DcId::new(1).unwrap_or(DcId::FIRST)
 }
 
@@ -114,7 +116,10 @@ fn draft(alloc: Global, session: u32) -> Result<Draft, NoMemory> {
 }
 
 // What the filter does with a record that comes back for want of memory: it is as it was before.
-fn offer_again(filter: &mut Filter, rec: Record) -> Result<Option<Verdict>, NoMemory> {
+fn offer_again(filter: &mut Filter, rec: Record) -> Result<Option<Verdict>, NoMemory>
+    ensures accepted { filter.new.accepted ≡ filter.old.accepted }
+    ensures map { filter.new.map ≡ filter.old.map }
+{
     if !filter.fits(&rec) {
         return Ok(None);
     }
@@ -124,8 +129,15 @@ fn offer_again(filter: &mut Filter, rec: Record) -> Result<Option<Verdict>, NoMe
     }
 }
 
-// What the filter does with a number, if it is its own.
-fn offer(alloc: Global, filter: &mut Filter, toid: Toid) -> Result<Option<Verdict>, NoMemory> {
+// What the filter does with a number, if it is its own. Its map and what it accepted stay.
+pub(crate) fn offer(
+    alloc: Global,
+    filter: &mut Filter,
+    toid: Toid,
+) -> Result<Option<Verdict>, NoMemory>
+    ensures accepted { filter.new.accepted ≡ filter.old.accepted }
+    ensures map { filter.new.map ≡ filter.old.map }
+{
     let rec = record(alloc, toid)?;
     if !filter.fits(&rec) {
         return Ok(None);
@@ -145,7 +157,7 @@ fn number_of(item: &Item) -> Toid {
 }
 
 // Whether the items have these numbers.
-fn are_numbers(items: &Seq<Item>, numbers: &[Toid]) -> bool {
+pub(crate) fn are_numbers(items: &Seq<Item>, numbers: &[Toid]) -> bool {
     for (item, number) in items.iter().zip(numbers) {
         if number_of(item) != *number {
             return false;

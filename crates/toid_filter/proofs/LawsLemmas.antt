@@ -15,6 +15,7 @@ use Rattle.toid_filter.specs.declared.filter.Verdict.{Verdict}
 use Rattle.toid_filter.specs.declared.filter.Verdict.TheVariants.{Passed, Held, Dropped}
 use Rattle.toid_filter.specs.Champions.{champion, dealt_by, dealt_from, first_map, last_share, last_of_shares, sole_share}
 use Rattle.toid_filter.specs.Filters.{FilterState, Announcement, no_filter, new_filter, filter_at, owns, is_passed, has_name, is_held, is_known, times_passed, all_below, is_done, is_free, is_held_back, is_due, due, reached_by, released, stands_before, with_held, with_record, mark_accepted, IsTaken, Fits, IsTidy, IsSteady, AreSound}
+use Rattle.toid_filter.specs.Growth.{HasGained}
 use Rattle.toid_filter.specs.Laws.{AreTaken, AreTakenByChampions, HasPassed, HavePassed, IsKnownToChampion, Waits}
 use Rattle.toid_filter.proofs.Tests.{filter_keeps, all_from_contains, name_parts, name_from, before_parts, pairs_append}
 use Rattle.toid_filter.proofs.Reached.{reached_more, reached_covers}
@@ -149,8 +150,11 @@ taken_passes f r Passed g steady fits took = subst (λ x. ((gained : List Record
     ))
 
 -- one after another
-then_passed : (f g k : FilterState) (a b : List Record) → HasPassed f g a → HasPassed g k b → HasPassed f k (a ++ b)
-then_passed f g k a b one two = record {
+pub gained_of : (f g : FilterState) (a : List Record) → HasPassed f g a → HasGained f g a
+gained_of f g a passed = record { out = passed.out; rising = passed.rising; counts = passed.counts; new = passed.new; reached = passed.reached; grows = passed.grows }
+
+pub then_gained : (f g k : FilterState) (a b : List Record) → HasGained f g a → HasGained g k b → HasGained f k (a ++ b)
+then_gained f g k a b one two = record {
   out = two.out ∙ ap (λ xs. xs ++ map External b) one.out ∙ append_assoc f.out (map External a) (map External b) ∙ ap (λ xs. f.out ++ xs) (sym (map_append a b));
   rising = pairs_append (λ (q r : Record). q.host ≡ r.host → q.toid < r.toid) a b one.rising two.rising
       (all_from_contains (λ (q : Record). All (λ (r : Record). q.host ≡ r.host → q.toid < r.toid) b) a (λ q has. all_from_contains (λ (r : Record). q.host ≡ r.host → q.toid < r.toid) b (λ r later host.
@@ -161,12 +165,16 @@ then_passed f g k a b one two = record {
   reached = All-append (λ (q : Record). q.toid ≤ get_or k.reached q.host 0) a b
       (all_from_contains (λ (q : Record). q.toid ≤ get_or k.reached q.host 0) a (λ q has. omega (arith, two.grows q.host, All-contains (λ (x : Record). x.toid ≤ get_or g.reached x.host 0) a q one.reached has))) two.reached;
   grows = λ h. omega (arith, one.grows h, two.grows h);
-  keeps = λ h t is. two.keeps h t (one.keeps h t is);
 }
   where
     map_append : (xs ys : List Record) → map External (xs ++ ys) ≡ map External xs ++ map External ys
     map_append [] ys = refl
     map_append (x ∷ xs) ys = ap (λ zs. External x ∷ zs) (map_append xs ys)
+
+then_passed : (f g k : FilterState) (a b : List Record) → HasPassed f g a → HasPassed g k b → HasPassed f k (a ++ b)
+then_passed f g k a b one two =
+    let both = then_gained f g k a b (gained_of f g a one) (gained_of g k b two) in
+    record { out = both.out; rising = both.rising; counts = both.counts; new = both.new; reached = both.reached; grows = both.grows; keeps = λ h t is. two.keeps h t (one.keeps h t is) }
 
 pub all_steady : (f g : FilterState) (rs : List Record) (vs : List Verdict) → IsSteady f → AreTaken f rs vs g → IsSteady g
 all_steady f g [] [] steady took = subst IsSteady (sym took) steady

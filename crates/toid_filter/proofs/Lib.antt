@@ -10,3 +10,4 @@ pub mod SumLemmas
 pub mod MarkLemmas
 pub mod Releasing
 pub mod Losing
+pub mod GrowthLemmas

@@ -1,9 +1,9 @@
 -- The held records that other filters serve are taken out one after another, from the first on.
-use Rattle.std.proofs.Common.{◌≡◌, ◌⊎◌, ℕ, ◌+◌, ◌<◌, ◌≤◌, Bool, true, false, cond, not, List, [], ◌∷◌, ◌++◌, length, map, filter, drop, refl, ap, ap₂, sym, ◌∙◌, subst, inl, inr, arith, Option, Some, None, slice_get, Contains, append_assoc, append-nil, get_or, zero, suc, length-append}
-use Rattle.std.specs.List.{All, AllPairs, find}
+use Rattle.std.proofs.Common.{◌≡◌, ℕ, ◌+◌, ◌≤◌, Bool, true, false, cond, not, List, [], ◌∷◌, ◌++◌, length, map, filter, drop, refl, ap, ap₂, sym, ◌∙◌, subst, inl, inr, arith, Option, Some, None, slice_get, Contains, append_assoc, append-nil, length-append}
+use Rattle.std.specs.List.{All, find}
 use Rattle.std.specs.Option.{option_map}
-use Rattle.std.proofs.lemmas.Bool.{cases_Bool, cond_both, not-true, not_from_true, not_from_false, true≢false, false_from_ne_true}
-use Rattle.std.proofs.lemmas.List.Elements.{All-nil, All-cons, All-head, All-tail, All-append, All-contains, All-filter, All-weaker, filter-append, Contains-append_cases, Contains-append_left, Contains-append_right}
+use Rattle.std.proofs.lemmas.Bool.{cond_both, not_from_true, not_from_false, true≢false, false_from_ne_true}
+use Rattle.std.proofs.lemmas.List.Elements.{All-nil, All-cons, All-head, All-tail, All-append, All-contains, All-weaker, filter-append, Contains-append_cases, Contains-append_left, Contains-append_right}
 use Rattle.std.proofs.lemmas.Option.{same_Some}
 use Rattle.causal_deps.specs.declared.record.Record.{Record}
 use Rattle.causal_deps.proofs.Lists.{Contains-cons, Contains-filter, Contains-here, Contains-there}

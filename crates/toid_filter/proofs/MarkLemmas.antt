@@ -284,7 +284,7 @@ module _ (m : List (List Share)) (h mark : ℕ) (f : FilterState) (fm : f.map �
   }
 
   -- what was passed is passed by the grown map, and nothing else
-  passed_same : (g t : ℕ) → is_passed on g t ≡ is_passed f g t
+  pub passed_same : (g t : ℕ) → is_passed on g t ≡ is_passed f g t
   passed_same g t = same_and (leb 1 t) (leb t (get_or f.reached g 0)) (owns on g t) (owns f g t) (λ some low.
       let first = leb-true 1 t some in
       let below = leb-true t (get_or f.reached g 0) low in
@@ -347,7 +347,7 @@ module _ (m : List (List Share)) (a : Announcement) (fs : List FilterState) (sou
   abbrev made : FilterState
   made = new_filter (length fs) m_grown
 
-  marked_at : (i : ℕ) (f : FilterState) → i < length fs → (get_or fs i f).accepted ≡ Some (mark_of a)
+  pub marked_at : (i : ℕ) (f : FilterState) → i < length fs → (get_or fs i f).accepted ≡ Some (mark_of a)
   marked_at i f low = ap (λ (x : FilterState). x.accepted) (get_or_default fs i f no_filter low) ∙ sound.heard i low ∙ cond-true (ltb i a.next) (Some (mark_of a)) None (lt-ltb i a.next (omega arith))
 
   pub all_activated : (P : Item → Type 0) → All (λ f. All (λ r. P (External r)) f.held) fs → All (λ f. All P f.out) fs → All (λ f. IsActivated m_grown f P (activated m_grown f)) fs

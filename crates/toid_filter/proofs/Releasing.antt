@@ -1,9 +1,9 @@
 -- A filter that lets go what no mark holds back any more: what is due is all of one host, and it goes as if the first of it were taken
 -- once more. The theorems are `next_released`, where the next own number is held, and `none_released`, where it is not.
-use Rattle.std.proofs.Common.{◌≡◌, ◌≢◌, ◌⊎◌, ℕ, zero, suc, ◌+◌, ◌<◌, ◌≤◌, Bool, true, false, not, ◌||◌, List, [], ◌∷◌, ◌++◌, length, map, filter, take, drop, get_or, refl, ap, ap₂, sym, ◌∙◌, subst, inl, inr, arith, Option, Some, None, slice_get, Contains, append-nil, length-append, leb, eqb, ◌&&◌}
-use Rattle.std.specs.List.{All, AllPairs}
-use Rattle.std.proofs.lemmas.Bool.{cases_eq, cases_lt, or_cases, or_parts, or_left, or_right, not-true, not_from_true, not_from_false, true≢false, eq-eqb, eqb-true, eqb-false, ne_eqb, false_from_ne_true, cond-false}
-use Rattle.std.proofs.lemmas.List.Elements.{All-nil, All-append, All-head, All-contains, All-filter, All-weaker, filter-append, Contains-append_cases, Contains-append_left, Contains-append_right}
+use Rattle.std.proofs.Common.{◌≡◌, ◌≢◌, ◌⊎◌, ℕ, ◌+◌, ◌<◌, ◌≤◌, true, false, not, ◌||◌, List, [], ◌∷◌, ◌++◌, length, map, filter, take, drop, get_or, refl, ap, ap₂, sym, ◌∙◌, subst, inl, inr, arith, Some, None, slice_get, Contains, append-nil, length-append, leb, eqb, ◌&&◌}
+use Rattle.std.specs.List.{All}
+use Rattle.std.proofs.lemmas.Bool.{cases_eq, cases_lt, or_cases, or_left, or_right, not-true, not_from_true, not_from_false, true≢false, eq-eqb, eqb-true, ne_eqb, false_from_ne_true}
+use Rattle.std.proofs.lemmas.List.Elements.{All-contains, All-weaker, filter-append, Contains-append_cases}
 use Rattle.std.proofs.lemmas.List.Kept.{AllPairs-filter}
 use Rattle.std.proofs.lemmas.Option.{same_Some}
 use Rattle.causal_deps.specs.declared.record.Record.{Record}
@@ -13,10 +13,10 @@ use Rattle.causal_deps.specs.Counts.{raised}
 use Rattle.causal_deps.proofs.Lists.{Contains-cons, Contains-filter, Contains-here, Contains-there}
 use Rattle.toid_filter.specs.declared.filter.Mark.{Mark}
 use Rattle.toid_filter.specs.declared.champions.Share.{Share}
-use Rattle.toid_filter.specs.Champions.{champion, grown, Serves}
-use Rattle.toid_filter.specs.Filters.{FilterState, activated, is_own, owns, is_passed, is_held, is_known, is_met, is_done, is_due, is_held_back, reached_by, is_free, cancelled, due, not_due, released, before_name, from_name, stands_before, with_held, Fits, IsNext, IsSteady, IsTidy}
+use Rattle.toid_filter.specs.Champions.{champion, grown}
+use Rattle.toid_filter.specs.Filters.{FilterState, activated, is_own, owns, is_passed, is_held, is_known, is_met, is_due, is_held_back, reached_by, is_free, cancelled, due, not_due, released, before_name, from_name, stands_before, with_held, Fits, IsNext, IsSteady, IsTidy}
 use Rattle.toid_filter.proofs.Tests.{settled_from, all_from_contains, before_parts, before_from_host, before_from_toid, not_before, pairs_append, pairs_parts}
-use Rattle.toid_filter.proofs.FilterLemmas.{passed_parts, passed_from, held_parts, held_from, due_parts, due_from, free_from, met_gives, due_below, own_is}
+use Rattle.toid_filter.proofs.FilterLemmas.{passed_parts, passed_from, held_parts, held_from, due_parts, due_from, free_from, met_gives, own_is}
 use Rattle.toid_filter.proofs.HeldLemmas.{Rising, filter_all, filter_none, two_parts}
 use Rattle.toid_filter.proofs.MarkLemmas.{champion_same, on_tidy, open_tidy}
 use Rattle.toid_filter.proofs.Running.{pass_taken}

@@ -4,3 +4,4 @@ pub mod Filters
 pub mod Laws
 pub mod Sums
 pub mod Marks
+pub mod Growth

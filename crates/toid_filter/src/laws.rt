@@ -10,6 +10,7 @@ ghost use Rattle.toid_filter.specs.Champions.{first_map, grown, last_share};
 ghost use Rattle.toid_filter.specs.Filters.{FilterState, Announcement, activated, cancelled, filter_at, handed_out, is_known, is_past, new_filter, times_passed, with_item, with_record, AreSound, Fits, IsSound, IsSteady, IsTaken};
 ghost use Rattle.toid_filter.specs.Marks.{accepted_next, asked_next, filters_grown, grown_by};
 ghost use Rattle.toid_filter.specs.Sums.{added_by, items_of, LosesNothing};
+ghost use Rattle.toid_filter.specs.Growth.{Filtering, AreSoundTogether, GoOn, HaveGained};
 ghost use Rattle.toid_filter.specs.Laws.{AreTaken, AreTakenByChampions, HasPassed, HavePassed, IsKnownToChampion, Waits};
 ghost use Rattle.cz_base.specs.declared.limits.TheConstants.{DATACENTRES, MEMBERS};
 
@@ -110,4 +111,12 @@ pub fn cancelling_keeps_filters_sound()
 pub fn activating_keeps_filters_sound()
     ensures sound { (shares : List (List Share)) (a : Announcement) (fs : List FilterState) → AreSound shares (Some a) fs → length fs ≤ a.next → AreSound (grown_by a shares) None (filters_grown a shares fs) }
     ensures few { (shares : List (List Share)) (a : Announcement) (fs : List FilterState) → AreSound shares (Some a) fs → length fs ≤ a.next → length fs ≤ MEMBERS → length (filters_grown a shares fs) ≤ MEMBERS }
+{}
+
+/// Over any list of takes by the champions, announcements, acceptances, cancellations and activations the filters of a
+/// datacentre stay sound together, all of them pass each number at most once, and each filter passes those of one host in rising
+/// order.
+pub fn growing_filters_pass_each_number_once()
+    ensures sound { (z y : Filtering) (steps : List Filtering) → AreSoundTogether z → GoOn z steps y → AreSoundTogether y }
+    ensures once { (z y : Filtering) (steps : List Filtering) → AreSoundTogether z → GoOn z steps y → (gained : List (List Record)) × HaveGained z.filters y.filters gained }
 {}

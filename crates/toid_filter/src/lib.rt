@@ -34,7 +34,8 @@ pub use laws::{
     accepting_keeps_filters_sound, activating_keeps_filters_sound, activating_loses_nothing,
     announcing_keeps_filters_sound, cancelling_keeps_filters_sound, cancelling_loses_nothing,
     champions_keep_filters_sound, champions_lose_nothing, champions_pass_each_number_once,
-    held_records_wait, new_filters_are_sound, nothing_is_lost, numbers_pass_once_and_in_order,
-    one_filter_passes_a_number, steady_filters_are_sound, takes_are_determined,
-    takes_keep_filters_sound, taking_a_draft_loses_nothing, taking_loses_nothing,
+    growing_filters_pass_each_number_once, held_records_wait, new_filters_are_sound,
+    nothing_is_lost, numbers_pass_once_and_in_order, one_filter_passes_a_number,
+    steady_filters_are_sound, takes_are_determined, takes_keep_filters_sound,
+    taking_a_draft_loses_nothing, taking_loses_nothing,
 };

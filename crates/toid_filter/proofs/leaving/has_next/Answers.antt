@@ -1,4 +1,4 @@
-use Rattle.std.proofs.Common.{◌≡◌, ◌∙◌, ap, sym, subst, not, false}
+use Rattle.std.proofs.Common.{◌≡◌, ◌∙◌, ap, sym, subst, not}
 use Rattle.std.proofs.lemmas.Bool.{eq-eqb, eqb-true, false_from_ne_true, not_from_false, true≢false}
 use Rattle.std.proofs.lemmas.Option.{same_Some}
 use Rattle.causal_deps.specs.declared.record.Record.{Record}

@@ -1,4 +1,4 @@
-use Rattle.std.proofs.Common.{◌≡◌, ◌∙◌, ◌∷◌, [], ◌++◌, List, length, arith, ap, subst, sym}
+use Rattle.std.proofs.Common.{◌∙◌, List, arith, subst, sym}
 use Rattle.causal_deps.specs.declared.record.Record.{Record}
 use Rattle.toid_filter.specs.Filters.{is_own}
 use Rattle.toid_filter.proofs.Losing.{IsLosing, losing_ends_kept, losing_ends_taken, losing_next, losing_some, losing_starts, none_named}

@@ -1,7 +1,5 @@
-use Rattle.std.proofs.Common.{◌≡◌, ◌∙◌, ◌∷◌, [], ◌++◌, List, ap, ap₂, sym, subst, get_or, set}
-use Rattle.std.proofs.lemmas.List.{get_or_default}
-use Rattle.toid_filter.specs.declared.champions.Share.{Share}
-use Rattle.toid_filter.specs.Champions.{IsMap, grown}
+use Rattle.std.proofs.Common.{◌∙◌, sym, subst}
+use Rattle.toid_filter.specs.Champions.{IsMap}
 use Rattle.toid_filter.proofs.ShareLemmas.{grown_is_map, pushed_is_grown}
 use Rattle.toid_filter.proofs.champions.Champions.grown.Goals as goal
 

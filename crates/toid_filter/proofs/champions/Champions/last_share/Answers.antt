@@ -1,4 +1,4 @@
-use Rattle.std.proofs.Common.{◌∙◌, ap, arith}
+use Rattle.std.proofs.Common.{◌∙◌, ap}
 use Rattle.toid_filter.specs.Champions.{last_of_shares, sole_share}
 use Rattle.toid_filter.proofs.ShareLemmas.{last_next, last_all}
 use Rattle.toid_filter.proofs.champions.Champions.last_share.Goals as goal

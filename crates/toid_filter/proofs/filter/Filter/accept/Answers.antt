@@ -1,6 +1,6 @@
-use Rattle.std.proofs.Common.{◌≡◌, ◌≤◌, ◌<◌, false, leb, ◌&&◌, get_or, arith, ap, length, subst, ◌∙◌, sym, refl}
+use Rattle.std.proofs.Common.{leb, ◌&&◌, arith, ap, length, subst, ◌∙◌, sym}
 use Rattle.toid_filter.specs.contracts.filter.Filter.{the_view}
-use Rattle.toid_filter.specs.Filters.{FilterState, IsSteady, is_past}
+use Rattle.toid_filter.specs.Filters.{FilterState, IsSteady}
 use Rattle.toid_filter.proofs.FilterLemmas.{steady_sound}
 use Rattle.toid_filter.proofs.MarkLemmas.{accepts, not_past}
 use Rattle.toid_filter.proofs.filter.Filter.accept.Goals as goal

@@ -1,8 +1,8 @@
-use Rattle.std.proofs.Common.{◌≤◌, ◌++◌, [], arith, ap, length, refl, subst, ◌∙◌, sym}
+use Rattle.std.proofs.Common.{◌≤◌, arith, ap, length, refl, subst, ◌∙◌, sym}
 use Rattle.std.proofs.lemmas.List.Elements.{All-weaker}
 use Rattle.causal_deps.specs.declared.record.Record.{Record}
 use Rattle.toid_filter.specs.contracts.filter.Filter.{the_view}
-use Rattle.toid_filter.specs.Filters.{FilterState, Fits, IsSound, IsSteady, activated, handed_out, is_own}
+use Rattle.toid_filter.specs.Filters.{Fits, IsSound, activated, is_own}
 use Rattle.toid_filter.proofs.FilterLemmas.{steady_out, steady_sound}
 use Rattle.toid_filter.proofs.Losing.{few_filtered}
 use Rattle.toid_filter.proofs.Releasing.{code_fewer, code_fits, code_free, code_hosts, code_new, code_passes, code_steady, few_from, grown_at, remapped, remapped_only, remapped_released, remapped_tidy, still_released, still_steady}

@@ -1,4 +1,4 @@
-use Rattle.std.proofs.Common.{arith, ap, length, refl, subst, ◌∙◌, sym}
+use Rattle.std.proofs.Common.{arith, ap, refl, subst, ◌∙◌, sym}
 use Rattle.toid_filter.specs.contracts.filter.Filter.{the_view}
 use Rattle.toid_filter.specs.Filters.{FilterState, IsSteady, cancelled}
 use Rattle.toid_filter.proofs.FilterLemmas.{steady_out, steady_sound}
