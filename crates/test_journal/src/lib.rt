@@ -1,6 +1,7 @@
-//! Tests of the journal lock with threads: rows of passes, and many pushes at once.
+//! Tests of the journal lock with threads: many pushes at once.
 //!
-//! `learning` has a thread's work, many events of one datacentre's table. The crate proves nothing for others.
+//! `learning` has the work of a thread, many events of the table of one datacentre, with contracts of what a pass has then
+//! seen. `threads` runs four of them.
 #![tactic(auto)]
 
 mod learning;

@@ -1,4 +1,4 @@
-//! Four threads that push at once, and two that begin a session each.
+//! Four threads that push at once.
 use crate::{Work, learn_four};
 use abstract_log::Workload;
 use cz_base::{DcId, Seq};
