@@ -39,5 +39,5 @@ pub const ROUND: u32 = 1024;
 /// The most records that a command asks for by a tag.
 pub const LAST_RECORDS: u32 = 64;
 
-/// Positions, record numbers and steps stay below this, 2^48.
+/// Positions and record numbers stay below this, 2^48.
 pub const NUMBERS_END: u64 = 1 << 48;
