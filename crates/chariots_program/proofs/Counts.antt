@@ -11,7 +11,7 @@ use Rattle.command_line.specs.declared.task.Task.TheVariants.{Replay, Generate}
 use Rattle.chariots_program.specs.declared.done.Done.{Done}
 use Rattle.chariots_program.specs.declared.done.Refusal.{Refusal}
 use Rattle.chariots_program.specs.declared.done.Refusal.TheVariants.{Words, Script as BadScript, TooLong, ReadFault, NoMemory}
-use Rattle.chariots_program.specs.Ending.{EndsAtReadFault, EndsGenerated, EndsReplay, EndsReport, EndsTask, EndsUnasked, IsRefused, IsRefusedFor, IsReported, IsReportStatus, StandsStill, status_of}
+use Rattle.chariots_program.specs.Ending.{EndsGenerated, EndsReplay, EndsReport, EndsTask, EndsUnasked, IsRefused, IsRefusedFor, IsReported, IsReportStatus, StandsStill, status_of}
 
 -- A count that stands still shows no fault.
 
@@ -91,18 +91,18 @@ pub replay_kept : (form : Form) (old new : Option (List ℕ)) (before now : ℕ)
 replay_kept form old new before now w w' f f' done (inl made) is = (made.read.kept, report-whole _ _ _ _ _ _ made.reported.status is)
 replay_kept form old new before now w w' f f' done (inr refused) is = absurd (not-at w w' f f' done refused (inl is))
 
-refused-at_fault : (old new : Option (List ℕ)) (before now : ℕ) (refusal : Refusal) → IsRefusedFor old new before now refusal → before < now → EndsAtReadFault old new (status_of refusal)
+refused-at_fault : (old new : Option (List ℕ)) (before now : ℕ) (refusal : Refusal) → IsRefusedFor old new before now refusal → before < now → status_of refusal ≡ 4
 refused-at_fault old new before now Words why more = absurd why
 refused-at_fault old new before now (BadScript text) why more = absurd (omega (arith, why.1, more))
-refused-at_fault old new before now TooLong why more = inr (inr (refl, why))
-refused-at_fault old new before now ReadFault why more = inl refl
-refused-at_fault old new before now NoMemory why more = inr (inl refl)
+refused-at_fault old new before now TooLong why more = absurd (omega (arith, why.1, more))
+refused-at_fault old new before now ReadFault why more = refl
+refused-at_fault old new before now NoMemory why more = absurd (omega (arith, why, more))
 
 pub replay_at_fault : (form : Form) (old new : Option (List ℕ)) (before now : ℕ) (w w' : Option (List ℕ)) (f f' : ℕ) (done : Done) → EndsReplay form old new before now w w' f f' done
-    → before < now → EndsAtReadFault old new done.status
+    → before < now → done.status ≡ 4
 replay_at_fault form old new before now w w' f f' done (inl made) more = absurd (omega (arith, made.read.kept, more))
 replay_at_fault form old new before now w w' f f' done (inr refused) more =
-    subst (EndsAtReadFault old new) (sym refused.status) (refused-at_fault old new before now refused.refusal refused.cause more)
+    refused.status ∙ refused-at_fault old new before now refused.refusal refused.cause more
 
 pub replay_report_fault : (form : Form) (old new : Option (List ℕ)) (before now : ℕ) (w w' : Option (List ℕ)) (f f' : ℕ) (done : Done) → EndsReplay form old new before now w w' f f' done
     → IsSome done.run → f < f' → done.status ≡ 5
@@ -142,7 +142,7 @@ kept (Some (Replay form)) old new before now w w' f f' done ended is = replay_ke
 kept (Some (Generate seed)) old new before now w w' f f' done ended is = (ended.0.1, generated-kept seed w w' f f' done ended.1 is)
 
 pub at_fault : (task : Option Task) (old new : Option (List ℕ)) (before now : ℕ) (w w' : Option (List ℕ)) (f f' : ℕ) (done : Done) → EndsTask task old new before now w w' f f' done
-    → before < now → EndsAtReadFault old new done.status
+    → before < now → done.status ≡ 4
 at_fault None old new before now w w' f f' done ended more = absurd (omega (arith, ended.0.1, more))
 at_fault (Some (Replay form)) old new before now w w' f f' done ended more = replay_at_fault form old new before now w w' f f' done ended more
 at_fault (Some (Generate seed)) old new before now w w' f f' done ended more = absurd (omega (arith, ended.0.1, more))

@@ -31,7 +31,8 @@ rise_tail n ns h i j d less inside = h (suc i) (suc j) d (omega arith) (omega ar
 others_differ : (x : Session) (xs : List Session) → Rise (numbers_of (x ∷ xs)) → All (λ n. x.number < n) (numbers_of xs)
 others_differ x xs h k d inside = h 0 (suc k) d (omega arith) (omega arith)
 
-none_changed : (s : ℕ) (f : Session → Session) (xs : List Session) → All (λ n. s < n) (numbers_of xs) → at_session s f xs ≡ xs
+-- a change by a number that none has
+pub none_changed : (s : ℕ) (f : Session → Session) (xs : List Session) → All (λ n. s < n) (numbers_of xs) → at_session s f xs ≡ xs
 none_changed s f [] h = refl
 none_changed s f (x ∷ xs) h =
     let above : s < x.number = All-head (λ n. s < n) x.number (numbers_of xs) h in

@@ -17,17 +17,12 @@ use Rattle.stage_world.specs.Stages.{Datacentre, Session}
 use Rattle.stage_world.specs.StandsFor.{numbers_of}
 use Rattle.stage_world.specs.Turns.{Turned, at_session, begun, quiet}
 use Rattle.stage_world.specs.ClientTurns.{begin_turn, client_of, next_index, open_turn, top_for}
+use Rattle.stage_world.proofs.SessionLemmas.{begun_then}
 use Rattle.hyksos.specs.Sessions.{next_command, writes}
+use Rattle.stage_turns.proofs.AckLemmas.{none_changed}
 use Rattle.stage_turns.specs.Clients.{batchers_written, with_draft, write_events, write_outcome}
 
 -- One session of several, changed by its number.
-
-none_changed : (s : ℕ) (f : Session → Session) (xs : List Session) → All (λ n. s < n) (numbers_of xs) → at_session s f xs ≡ xs
-none_changed s f [] h = refl
-none_changed s f (x ∷ xs) h =
-    let above : s < x.number = All-head (λ n. s < n) x.number (numbers_of xs) h in
-    ap₂ (λ (y : Session) ys. y ∷ ys) (ap (λ b. cond b (f x) x) (ne_eqb x.number s (λ same. absurd (omega (arith, above, same)))))
-    (none_changed s f xs (All-tail (λ n. s < n) x.number (numbers_of xs) h))
 
 pub set_session : (f : Session → Session) (xs : List Session) (i : ℕ) (x : Session) → AllPairs (λ a b. a < b) (numbers_of xs) → i < length xs → get_or xs i x ≡ x
     → at_session x.number f xs ≡ set xs i (f x)
@@ -46,15 +41,6 @@ set_session f (y ∷ ys) (suc i) x rise within is =
 
 abbrev turned : Datacentre → Outcome → List Event → Turned
 turned after outcome events = record { after = after; outcome = outcome; events = events }
-
--- a change after a begin
-pub begun_then : (n : ℕ) (g : Session → Session) (xs : List Session) → at_session n g (at_session n begun xs) ≡ at_session n (λ y. g (begun y)) xs
-begun_then n g [] = refl
-begun_then n g (y ∷ ys) = ap₂ (λ (s : Session) ss. s ∷ ss) (one (eqb y.number n) refl) (begun_then n g ys)
-  where
-    one : (b : Bool) → eqb y.number n ≡ b → cond (eqb (cond b (begun y) y).number n) (g (cond b (begun y) y)) (cond b (begun y) y) ≡ cond b (g (begun y)) y
-    one true is = ap (λ b. cond b (g (begun y)) (begun y)) is
-    one false is = ap (λ b. cond b (g y) y) is
 
 module _ (d : ℕ) (z : Datacentre) (i : ℕ) (x : Session) (rise : AllPairs (λ a b. a < b) (numbers_of z.sessions)) (within : i < length z.sessions) (is : get_or z.sessions i x ≡ x) where
   pub unchanged : set z.sessions i x ≡ z.sessions

@@ -25,6 +25,7 @@ use Rattle.stage_world.specs.Stages.{Datacentre, maintainer_at, no_maintainer, n
 use Rattle.stage_world.specs.StandsFor.{IsDealtBy, StandsAt}
 use Rattle.stage_world.specs.Turns.{place_turn, placed_from, unless_empty}
 use Rattle.stage_world.proofs.FilledLemmas.{one_at_most}
+use Rattle.stage_world.proofs.PrefixLemmas.{All-later_by, prefixes_meet}
 use Rattle.stage_world.proofs.StandsLemmas.{outbox_entries}
 use Rattle.stage_turns.specs.Placing.{MayPlace, MayPlaceAll, MayPlaceFrom, lid_of}
 
@@ -99,40 +100,9 @@ placed_plain old x y z n e es fs learnt room same new =
     ∙ ap (λ (s : MaintainerState Record). moved_in s (map slot_of fs)) (ap (λ (s : MaintainerState Record). plain s) room ∙ ap (λ (s : MaintainerState Record). plain s) learnt)
     ∙ ap (λ xs. moved_in (learned (plain old) e) (map slot_of xs)) same
 
--- lists that are beginnings of one list
-
-take-shorter : {X : Type 0} (n k : ℕ) (xs : List X) → n ≤ k → take n (take k xs) ≡ take n xs
-take-shorter zero k xs le = refl
-take-shorter (suc n) zero xs le = absurd (omega arith)
-take-shorter (suc n) (suc k) [] le = refl
-take-shorter (suc n) (suc k) (x ∷ xs) le = ap (λ ys. x ∷ ys) (take-shorter n k xs (omega arith))
-
-prefix_of : (e f t : EpochList) → IsPrefix e t → IsPrefix f t → length e.list ≤ length f.list → IsPrefix e f
-prefix_of e f t he hf short = record {
-  round = he.round ∙ sym hf.round;
-  shorter = short;
-  same = he.same ∙ sym (take-shorter (length e.list) (length f.list) t.list short) ∙ ap (take (length e.list)) (sym hf.same);
-}
-
--- of two beginnings of one list, one is the beginning of the other
-pub prefixes_meet : (e f t : EpochList) → IsPrefix e t → IsPrefix f t → IsPrefix e f ⊎ IsPrefix f e
-prefixes_meet e f t he hf = elim (cases_lt (length f.list) (length e.list)) [
-  | inl shorter ↦ inr (prefix_of f e t hf he (omega arith))
-  | inr longer ↦ inl (prefix_of e f t he hf longer)
-]
-
 -- what is settled by the whole list is by a beginning of it
 pub settled_by : (e f t : EpochList) (p : ℕ) → IsPrefix f t → IsSettled t e p → IsSettled f e p
-settled_by e f t p hf settled =
-    let n : ℕ = length e.list in
-    let k : ℕ = length f.list in
-    let above : Epoch → Type 0 = λ x. p < x.start in
-    elim (cases_lt n k) [
-      | inr none ↦ All-same above (later_than e f) [] (drop_all n f.list none) (All-nil above)
-      | inl some ↦
-          let is : drop n f.list ≡ take (k - n) (drop n t.list) = ap (drop n) (hf.same ∙ ap (λ i. take i t.list) (omega arith)) ∙ drop-take n (k - n) t.list in
-          All-same above (drop n f.list) (take (k - n) (drop n t.list)) is (All-take above (k - n) (drop n t.list) settled)
-    ]
+settled_by e f t p hf settled = All-later_by (λ x. p < x.start) e f t hf settled
 
 module _ (w : World) (d : ℕ) (z : Datacentre) (q m : ℕ) (in_q : q < length z.queues) (in_m : m < length z.maintainers) (lawful : IsLawful w) (h : StandsAt w d z) where
   abbrev old_q : QueueState

@@ -14,6 +14,7 @@ use Rattle.maintainer.proofs.CountLemmas.{All-tested, entry_there, none_counted}
 use Rattle.tag_indexer.specs.declared.post.Post.{Post}
 use Rattle.tag_indexer.specs.Indexers.{AreOwnRows, IndexerState, posted}
 use Rattle.stage_world.specs.MoreTurns.{posted_to, row_made}
+use Rattle.stage_world.proofs.PostTurn.{made_at}
 use Rattle.stage_world.proofs.ListLemmas.{Contains-head, Contains-tail, Contains-cases, Contains-filter}
 use Rattle.stage_turns.specs.Posting.{MayPost, is_between, post_mark}
 
@@ -74,13 +75,6 @@ made_rise [] rise = λ i j d before within. absurd (omega arith)
 made_rise (x ∷ xs) rise =
     AllPairs-cons (λ (a b : Post). a.place.lid < b.place.lid) (row_made x) (map row_made xs) (All-made (λ (post : Post). x.lid < post.place.lid) xs (λ k d within. rise 0 (suc k) d (omega arith) (omega arith)))
     (made_rise xs (λ i j d before within. rise (suc i) (suc j) d (omega arith) (omega arith)))
-
-made_at : (es : List (Slot Record)) (e : Slot Record) → Contains es e → Contains (map (λ (x : Post). x.place.lid) (map row_made es)) e.lid
-made_at [] e has = absurd (omega (arith, has.1))
-made_at (x ∷ xs) e has = elim (Contains-cases x e xs has) [
-  | inl is ↦ subst (λ u. Contains (u.lid ∷ map (λ (y : Post). y.place.lid) (map row_made xs)) e.lid) (sym is) (Contains-head e.lid (map (λ (y : Post). y.place.lid) (map row_made xs)))
-  | inr rest ↦ Contains-tail x.lid e.lid (map (λ (y : Post). y.place.lid) (map row_made xs)) (made_at xs e rest)
-]
 
 -- nothing is between a position and one that is no higher
 pub none_past : (es : List (Slot Record)) (low top : ℕ) → top ≤ low → filter (is_between low top) es ≡ []

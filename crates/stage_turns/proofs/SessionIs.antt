@@ -41,10 +41,11 @@ use Rattle.stage_world.specs.Turns.{Turned, at_session, quiet, submitted}
 use Rattle.stage_world.specs.MoreTurns.{home_of}
 use Rattle.stage_world.specs.ClientTurns.{and_then, begin_turn, behind_turn, client_of, found_more, found_turn, key_turn, last_turn, look_turn, looked_up, open_turn, reading_at, reply_with, shown_at, waiting_turn}
 use Rattle.stage_world.specs.StandsFor.{IsAsFar, IsPinned, StandsAt, gone_times, is_look, keys_of}
+use Rattle.stage_world.proofs.SessionLemmas.{begun_then}
 use Rattle.stage_world.proofs.FilledLemmas.{filled_within}
 use Rattle.stage_world.proofs.LookUps.{looked_up_is, tagged_home}
 use Rattle.stage_world.proofs.ReplyTurn.{no_draft, shown_is}
-use Rattle.stage_turns.proofs.ClientIs.{begun_then, set_session}
+use Rattle.stage_turns.proofs.ClientIs.{set_session}
 use Rattle.stage_turns.specs.Clients.{begin_events, events_of, outcome_of, reply_events}
 use Rattle.stage_turns.specs.Shelves.{gone_in, shelf_of}
 
