@@ -1,10 +1,11 @@
 -- The token, and queues that stamp while they have it.
-use Rattle.std.specs.Prelude.{◌≡◌, ℕ, suc, ◌+◌, ◌<◌, ◌≤◌, ◌==◌, List, [], ◌∷◌, ◌++◌, length, map, replicate, Option, Some, None, slice_index_or, slice_set, All, sum_by}
+use Rattle.std.specs.Prelude.{◌≡◌, ℕ, suc, ◌+◌, ◌<◌, ◌≤◌, ◌==◌, max, List, [], ◌∷◌, ◌++◌, length, map, replicate, Option, Some, None, slice_index_or, slice_set, All, sum_by}
 use Rattle.std.specs.List.{count_by, filter}
 use Rattle.causal_deps.specs.declared.record.Record.{Record}
 use Rattle.causal_deps.specs.declared.record.Item.{Item}
 use Rattle.causal_deps.specs.Logs.{AreCountsOf}
-use Rattle.flstore_rounds.specs.Epochs.{EpochList, owner}
+use Rattle.flstore_rounds.specs.declared.epochs.Epoch.{Epoch}
+use Rattle.flstore_rounds.specs.Epochs.{EpochList, last_epoch, owner, with_epoch}
 use Rattle.token_queue.specs.declared.entry.Entry.{Entry}
 use Rattle.token_queue.specs.declared.entry.Stamp.{Stamp}
 use Rattle.token_queue.specs.Items.{FitsItem, is_ready, record_from, first_out}
@@ -60,6 +61,18 @@ tokenless q = record q { token = None }
 
 abbrev pub with_token : Option TokenState → QueueState → QueueState
 with_token o q = record q { token = o }
+
+-- one maintainer more may be dealt positions from above this one on: above what is stamped, and above the last epoch's start
+abbrev pub mark_bound : TokenState → ℕ
+mark_bound t = max t.last (last_epoch t.epochs).start
+
+-- the token with one maintainer more from position p on
+abbrev pub with_maintainer : TokenState → ℕ → TokenState
+with_maintainer t p = record t { epochs = with_epoch t.epochs (record { start = p; members = (last_epoch t.epochs).members + 1 }) }
+
+-- the token with one queue more in its ring, behind the last
+abbrev pub with_queue : TokenState → TokenState
+with_queue t = record t { queues = t.queues + 1 }
 
 -- how often position p is among the entries, and in all outboxes of a queue
 abbrev pub times_among : ℕ → List Entry → ℕ

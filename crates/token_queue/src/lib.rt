@@ -30,4 +30,4 @@ mod token;
 
 pub use entry::{Entry, Stamp, StampFault};
 pub use queue::Queue;
-pub use token::Token;
+pub use token::{AdoptFault, Token};

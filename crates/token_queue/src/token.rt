@@ -1,18 +1,31 @@
 //! The token, and how it stamps the items that it defers.
 
-ghost use Rattle.std.specs.Prelude.{◌≡◌, ◌+◌, ◌%◌, ◌<◌, ◌≤◌, ◌^◌, [], length, replicate, slice_index, All};
+ghost use Rattle.std.specs.Prelude.{◌≡◌, ◌+◌, ◌%◌, ◌<◌, ◌≤◌, ◌^◌, [], length, replicate, slice_index, All, ℕ, ◌↔◌, IsErrOf, OnErr, OnOk};
 ghost use Rattle.std.specs.Option.{ForSome, option_map, option_map_or};
 ghost use Rattle.std.specs.List.{position};
 ghost use Rattle.token_queue.specs.Items.{FitsItem, is_ready, record_from};
-ghost use Rattle.token_queue.specs.Queues.{IsToken, entry_after, next_out, token_after};
+ghost use Rattle.flstore_rounds.specs.Epochs.{last_epoch};
+ghost use Rattle.token_queue.specs.Queues.{IsToken, entry_after, mark_bound, next_out, token_after, with_maintainer, with_queue};
 ghost use Rattle.cz_base.specs.declared.limits.TheConstants.{DATACENTRES, MEMBERS, NUMBERS_END};
 
 use crate::Entry;
 use causal_deps::{Counts, Item, Record, draft_ready, ready};
 use cz_base::{DcId, Lid};
-use flstore_rounds::Epochs;
+use flstore_rounds::{EpochFault, Epochs};
 use std::alloc::Global;
 use std::marker::Model;
+use thiserror::Error;
+
+/// Why a token takes no further maintainer.
+#[derive(Clone, Copy, Debug, PartialEq, Eq, Error)]
+pub enum AdoptFault {
+    /// The mark is not above this bound: the greater of the last position and the last epoch's start.
+    #[error("not above position {bound}")]
+    Late { bound: Lid },
+    /// There is no memory for one epoch more.
+    #[error("no memory")]
+    NoMemory,
+}
 
 /// The one right to stamp at a datacentre, which moves from queue to queue: the greatest number of each
 /// host that was stamped, the last position, and the items that could not be stamped yet.
@@ -95,6 +108,35 @@ impl Token {
         ensures kept { IsToken self.now }
     {
         self.last
+    }
+
+    /// From position `mark` on there is one maintainer more. Refused as `Late` exactly where `mark` is not above the bound, which is
+    /// the greater of the last position and the last epoch's start; after any refusal the token is as before.
+    pub fn adopt(&mut self, mark: Lid) -> Result<(), AdoptFault>
+        requires mark { mark < NUMBERS_END }
+        requires few { (last_epoch self.old.epochs).members < MEMBERS }
+        ensures ok { OnOk result (self.new ≡ with_maintainer self.old mark) }
+        ensures late { (bound : ℕ) → IsErrOf result (AdoptFault.Late bound) ↔ ((bound ≡ mark_bound self.old) × (mark ≤ bound)) }
+        ensures err { OnErr result (self.new ≡ self.old) }
+    {
+        let last = self.epochs.last();
+        let bound = self.last.max(last.start);
+        if mark <= bound {
+            return Err(AdoptFault::Late { bound });
+        }
+        match self.epochs.add_epoch(mark, last.members + 1) {
+            Ok(()) => Ok(()),
+            Err(EpochFault::Late { .. }) => unreachable!(),
+            Err(EpochFault::NoMemory) => Err(AdoptFault::NoMemory),
+        }
+    }
+
+    /// There is one queue more in the ring, behind the last.
+    pub fn grow(&mut self)
+        requires { self.old.queues < MEMBERS }
+        ensures { self.new ≡ with_queue self.old }
+    {
+        self.queues += 1;
     }
 
     /// The first deferred item that is ready becomes the record at the next position.
