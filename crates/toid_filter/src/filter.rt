@@ -22,6 +22,15 @@ pub struct Mark {
     pub from: Toid,
 }
 
+/// What a filter answers that is asked to accept a mark.
+#[derive(Clone, Copy, Debug, PartialEq, Eq)]
+pub enum Accept {
+    /// It accepts the mark.
+    Accepted,
+    /// It passed a number at or above the mark; this is the greatest.
+    Late { passed: Toid },
+}
+
 /// What became of a record that a filter took.
 #[derive(Clone, Copy, Debug, PartialEq, Eq)]
 pub enum Verdict {

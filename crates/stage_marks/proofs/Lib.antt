@@ -1,0 +1,2 @@
+-- Why activation comes after all filters accepted.
+pub mod Answering

@@ -1,0 +1,2 @@
+-- The announcement of a datacentre.
+pub mod Marks
