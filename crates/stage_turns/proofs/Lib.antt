@@ -2,6 +2,7 @@ pub mod ChangeLemmas
 pub mod StampedItems
 pub mod AckLemmas
 pub mod RingLemmas
+pub mod JoiningLemmas
 pub mod StampLemmas
 pub mod StampStands
 pub mod StampTurns

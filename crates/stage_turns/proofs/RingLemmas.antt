@@ -41,7 +41,7 @@ pub some_has : (qs : List QueueState) (t : TokenState) → HaveToken qs t → No
 some_has qs t h none =
     false≢true (sym (fails_before_first has_token qs t.at no_queue (omega (arith, h.there, position_none has_token qs none))) ∙ some_token (queue_at qs t.at).token t h.holder)
 
-map_same : {X Y : Type 0} (f : X → Y) (xs : List X) (i : ℕ) (y d : X) → f y ≡ f (get_or xs i d) → map f (set xs i y) ≡ map f xs
+pub map_same : {X Y : Type 0} (f : X → Y) (xs : List X) (i : ℕ) (y d : X) → f y ≡ f (get_or xs i d) → map f (set xs i y) ≡ map f xs
 map_same f xs i y d same = map-set f xs i y ∙ ap (set (map f xs) i) same ∙ sym (map-set f xs i (get_or xs i d)) ∙ ap (map f) (set-get_or xs i d)
 
 -- The token t of queue `at` leaves it as q, and comes to the next as r.

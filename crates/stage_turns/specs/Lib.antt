@@ -11,3 +11,4 @@ pub mod Learning
 pub mod Told
 pub mod Rising
 pub mod Collecting
+pub mod Joining
