@@ -73,9 +73,9 @@ module _ (qs : List QueueState) (t : TokenState) (q : QueueState) (h : HaveToken
   pub has_after_push : HaveToken (qs ++ q ∷ []) t
   has_after_push = record {
     there = omega (arith, h.there, length_push qs q);
-    holder = ap (λ (x : QueueState). x.token) (get_or_append_left qs (q ∷ []) t.at no_queue h.there) ∙ h.holder;
+    holder = ap (λ (x : QueueState). x.token) (get_or_append_left qs (q ∷ []) no_queue t.at h.there) ∙ h.holder;
     others = λ i within other. elim (cases_lt i (length qs)) [
-      | inl low ↦ ap (λ (x : QueueState). x.token) (get_or_append_left qs (q ∷ []) i no_queue low) ∙ h.others i low other
+      | inl low ↦ ap (λ (x : QueueState). x.token) (get_or_append_left qs (q ∷ []) no_queue i low) ∙ h.others i low other
       | inr high ↦
           ap (λ (x : QueueState). x.token) (get_or_push qs q no_queue i (omega (arith, within, high, length_push qs q))) ∙ free
     ];
