@@ -74,11 +74,7 @@ pub fn add_maintainer(
         Err(AdoptFault::NoMemory) => return Err(NoMemory),
     }
     let number = maintainers.len() as u32;
-    maintainers.push(Maintainer::new(
-        queues.alloc(),
-        number,
-        epochs_at(queues, at)?,
-    ))?;
+    maintainers.push(Maintainer::new(queues.alloc(), number, epochs_at(queues, at)?))?;
     vectors.push(Vector::new(queues.alloc(), epochs_at(queues, at)?))?;
     Ok(TurnDone {
         outcome: Outcome::EpochAdded {
