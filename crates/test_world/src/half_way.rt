@@ -1,15 +1,9 @@
 //! A script that stops half-way, turn by turn.
 
-ghost use Rattle.std.specs.Prelude.{IfOk};
-ghost use Rattle.test_world.specs.Given.{IsWhole};
-
-use crate::steps::may_take_all;
+use crate::playing::play;
 use report_text::{full, logs};
-use script_text::read_script;
-use std::alloc::Global;
 use std::process::Abort;
 use std::test::Fail;
-use world::{Played, replay};
 
 // When its steps end a record is gone at A, a get-transaction has one of two keys and a get waits for its indexer, both with their pins; a
 // draft is in a batcher, one in a filter, one in a queue without the token; a record is in an outbox, two are placed and not gossiped; at C
@@ -406,22 +400,11 @@ const LEFT: &[u8] = b"\
     end\n\
 ";
 
-// The script, played to its end.
-fn whole(alloc: Global) -> Result<Played, Fail>
-    ensures { IfOk result IsWhole }
-{
-    let script = read_script(alloc, SCRIPT)?;
-    if !may_take_all(&script.workload, script.steps.as_slice()) {
-        return Err(Fail::from("a step that the stages may not take"));
-    }
-    Ok(replay(alloc, &script)?)
-}
-
 // Whatever is half way when the steps end, settling brings it to its end.
 #[test]
 fn what_is_half_way_is_settled(rt: HostRuntime) -> Result<(), Fail> {
     let alloc = rt.alloc();
-    let played = whole(alloc)?;
+    let played = play(alloc, SCRIPT)?;
     let report = full(alloc, &played.run, Some(&played.stages), &played.left)?;
     assert!(rt; report.as_slice().starts_with(BEGINS));
     let left = logs(alloc, &played.run, &played.left)?;
