@@ -11,9 +11,12 @@
 #![tactic(auto)]
 
 mod done;
+mod reading;
 mod replaying;
+mod storing;
 mod top;
 
 pub use done::{Done, Refusal, refuse};
-pub use replaying::SCRIPT_LIMIT;
+pub use reading::SCRIPT_LIMIT;
+pub use storing::flstore_run;
 pub use top::{chariots, plain_run, replay_run};
