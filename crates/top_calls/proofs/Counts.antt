@@ -1,5 +1,5 @@
 -- What the counts of faults tell of a status, and where a run is told.
-use Rattle.std.proofs.Common.{◌≡◌, ◌⊎◌, inl, inr, ◌<◌, ◌↔◌, ℕ, List, refl, sym, subst, ◌∙◌, arith}
+use Rattle.std.proofs.Common.{◌≡◌, ◌⊎◌, inl, inr, ◌<◌, ◌↔◌, ℕ, List, refl, subst, ◌∙◌, arith}
 use Rattle.std.specs.Prelude.{Option, Some, None, Result, IsSome}
 use Rattle.cz_base.specs.Faults.{Rose}
 use Rattle.abstract_log.specs.declared.script.Script.{Script}
@@ -156,7 +156,7 @@ told-of task P Q tells told = (λ p. (tells, told.0 p), λ both. told.1 both.1)
 
 -- and where it tells none, there is none
 untold-of : {X : Type 0} (task : Option Task) (o : Option X) (Q : Type 0) → (TellsRun task → ⊥) → o ≡ None → IsSome o ↔ (TellsRun task × Q)
-untold-of task o Q no none = (λ some. absurd (none-there o none some), λ both. absurd (no both.0))
+untold-of task o Q never none = (λ some. absurd (none-there o none some), λ both. absurd (never both.0))
 
 no-task : TellsRun None → ⊥
 no-task (inl is) = cc
