@@ -5,7 +5,7 @@ use Rattle.clap.proofs.OnLiterals.{clap_on_literals}
 use Rattle.command_line.specs.Words.{are_taken, found_in, form_name, task_of}
 use Rattle.command_line.specs.declared.task.Form.{Form}
 use Rattle.command_line.specs.declared.task.Form.TheVariants.{Full, Logs, Summary, Json}
-use Rattle.command_line.specs.declared.task.Task.TheVariants.{Replay, Generate}
+use Rattle.command_line.specs.declared.task.Task.TheVariants.{Replay, Generate, FlStore}
 
 -- A replay.
 
@@ -94,6 +94,34 @@ gen_too_large = refl
 pub gen_with_form : task_of (codes "gen" ∷ codes "7" ∷ codes "--form" ∷ codes "json" ∷ []) ≡ None
 unfolding clap_on_literals task_of are_taken found_in digits
 gen_with_form = refl
+
+-- A log by itself.
+
+pub flstore_alone : task_of (codes "flstore" ∷ []) ≡ Some FlStore
+unfolding clap_on_literals task_of are_taken found_in
+flstore_alone = refl
+
+pub flstore_closed : task_of (codes "flstore" ∷ codes "--" ∷ []) ≡ Some FlStore
+unfolding clap_on_literals task_of are_taken found_in
+flstore_closed = refl
+
+pub flstore_with_number : task_of (codes "flstore" ∷ codes "3" ∷ []) ≡ None
+unfolding clap_on_literals task_of are_taken found_in
+flstore_with_number = refl
+
+pub flstore_with_form : (form : Form) → task_of (codes "flstore" ∷ codes "--form" ∷ form_name form ∷ []) ≡ None
+unfolding clap_on_literals task_of are_taken found_in
+flstore_with_form Full = refl
+flstore_with_form Logs = refl
+flstore_with_form Summary = refl
+flstore_with_form Json = refl
+
+pub flstore_after_form : (form : Form) → task_of ((codes "--form=" ++ form_name form) ∷ codes "flstore" ∷ []) ≡ None
+unfolding clap_on_literals task_of are_taken found_in
+flstore_after_form Full = refl
+flstore_after_form Logs = refl
+flstore_after_form Summary = refl
+flstore_after_form Json = refl
 
 -- Other words.
 

@@ -160,10 +160,10 @@ pub begins_none : (word : Text) → begins_with_hyphen word ≡ true → task_of
 begins_none [] begins = cc
 begins_none (first ∷ rest) begins = subst (λ x. task_of ((x ∷ rest) ∷ []) ≡ None) (sym (eqb-true first 45 begins)) (one_hyphen rest)
 
--- of all single words only `replay` asks for anything
-pub lone : (word : Text) → word ≢ codes "replay" → task_of (word ∷ []) ≡ None
-lone word other = go (begins_with_hyphen word) refl
+-- of all single words only `replay` and `flstore` ask for anything
+pub lone : (word : Text) → word ≢ codes "replay" → word ≢ codes "flstore" → task_of (word ∷ []) ≡ None
+lone word other another = go (begins_with_hyphen word) refl
   where
     go : (begins : Bool) → begins_with_hyphen word ≡ begins → task_of (word ∷ []) ≡ None
     go true is = begins_none word is
-    go false is = lone_word word is other
+    go false is = lone_word word is other another

@@ -8,7 +8,7 @@ use Rattle.command_line.specs.Command.{command}
 use Rattle.command_line.specs.declared.task.Form.{Form}
 use Rattle.command_line.specs.declared.task.Form.TheVariants.{Full, Logs, Summary, Json}
 use Rattle.command_line.specs.declared.task.Task.{Task}
-use Rattle.command_line.specs.declared.task.Task.TheVariants.{Replay, Generate}
+use Rattle.command_line.specs.declared.task.Task.TheVariants.{Replay, Generate, FlStore}
 
 -- the command takes the words: no kind of error is theirs
 unfoldable pub are_taken : List (List ℕ) → Bool
@@ -60,10 +60,17 @@ generate_of (Some number) None = option_map Generate (seed_of number)
 generate_of (Some number) (Some form) = None
 generate_of None form = None
 
+-- a log by itself is run with nothing beside the mode
+abbrev pub flstore_of : Option (List ℕ) → Option (List ℕ) → Option Task
+flstore_of None None = Some FlStore
+flstore_of None (Some form) = None
+flstore_of (Some number) form = None
+
 -- the task of a mode, with the number and the form that stand beside it
 abbrev pub task_in_mode : List ℕ → Option (List ℕ) → Option (List ℕ) → Option Task
 task_in_mode mode number form = if bytes_eq mode (codes "replay") then replay_of number form
-    else (if bytes_eq mode (codes "gen") then generate_of number form else None)
+    else (if bytes_eq mode (codes "gen") then generate_of number form
+    else (if bytes_eq mode (codes "flstore") then flstore_of number form else None))
 
 -- the task of what stands for the mode, the number and the form
 abbrev pub task_from : Option (List ℕ) → Option (List ℕ) → Option (List ℕ) → Option Task

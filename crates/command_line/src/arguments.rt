@@ -3,7 +3,7 @@
 ghost use Rattle.std.specs.Prelude.{◌≡◌, ◌≢◌, ◌⊎◌, ◌<◌, Some, None, true, false, IfOk, IfErr, IsTrue, length, slice_index};
 ghost use Rattle.clap.specs.Words.{app_of, found_of, kind_of, rows_of};
 ghost use Rattle.command_line.specs.Command.{command};
-ghost use Rattle.command_line.specs.Words.{are_taken, found_in, form_asked, generate_of, replay_of, seed_of, task_from, task_of, text_behind};
+ghost use Rattle.command_line.specs.Words.{are_taken, flstore_of, found_in, form_asked, generate_of, replay_of, seed_of, task_from, task_of, text_behind};
 ghost use Rattle.command_line.specs.declared.task.WordsFault.TheVariants.{NotValid};
 
 use crate::task::{Form, Task, WordsFault};
@@ -60,6 +60,7 @@ fn read_task(mode: Option<&str>, number: Option<&str>, form: Option<&str>) -> Op
     match mode {
         Some("replay") => read_replay(number, form),
         Some("gen") => read_generate(number, form),
+        Some("flstore") => read_flstore(number, form),
         _ => None,
     }
 }
@@ -84,6 +85,16 @@ fn read_generate(number: Option<&str>, form: Option<&str>) -> Option<Task>
     }
     let seed = read_seed(number?)?;
     Some(Task::Generate { seed })
+}
+
+// The task of a log by itself, which takes neither a number nor a form.
+fn read_flstore(number: Option<&str>, form: Option<&str>) -> Option<Task>
+    ensures { result ≡ flstore_of (text_behind number.entry) (text_behind form.entry) }
+{
+    if number.is_some() || form.is_some() {
+        return None;
+    }
+    Some(Task::FlStore)
 }
 
 // The form that is asked for: the logs, if none is named.

@@ -7,7 +7,7 @@ ghost use Rattle.command_line.specs.Asked.{IsAskedBy};
 ghost use Rattle.command_line.specs.declared.task.Form.{Form};
 ghost use Rattle.command_line.specs.declared.task.Form.TheVariants.{Logs};
 ghost use Rattle.command_line.specs.declared.task.Task.{Task};
-ghost use Rattle.command_line.specs.declared.task.Task.TheVariants.{Replay, Generate};
+ghost use Rattle.command_line.specs.declared.task.Task.TheVariants.{Replay, Generate, FlStore};
 
 /// `replay` is a replay, of which the logs are written where no form is named.
 pub fn replay_writes_logs()
@@ -47,6 +47,15 @@ pub fn gen_takes_no_more()
     ensures form { task_of (codes "gen" ∷ codes "7" ∷ codes "--form" ∷ codes "json" ∷ []) ≡ None }
 {}
 
+/// `flstore` is the run of a log by itself, which takes neither a number nor a form.
+pub fn flstore_stands_alone()
+    ensures alone { task_of (codes "flstore" ∷ []) ≡ Some FlStore }
+    ensures dashes { task_of (codes "flstore" ∷ codes "--" ∷ []) ≡ Some FlStore }
+    ensures number { task_of (codes "flstore" ∷ codes "3" ∷ []) ≡ None }
+    ensures form { (form : Form) → task_of (codes "flstore" ∷ codes "--form" ∷ form_name form ∷ []) ≡ None }
+    ensures form_before { (form : Form) → task_of ((codes "--form=" ++ form_name form) ∷ codes "flstore" ∷ []) ≡ None }
+{}
+
 /// No words, an unknown mode and requests for help or the version ask for nothing.
 pub fn other_words_ask_for_nothing()
     ensures none { task_of [] ≡ None }
@@ -71,9 +80,9 @@ pub fn plain_words_stand_for_themselves()
     ensures more { (mode number next : List ℕ) (more : List (List ℕ)) → begins_with_hyphen mode ≡ false → begins_with_hyphen number ≡ false → begins_with_hyphen next ≡ false → task_of (mode ∷ number ∷ next ∷ more) ≡ None }
 {}
 
-/// Of all single words only `replay` asks for anything.
-pub fn lone_words_ask_for_a_replay()
-    ensures { (word : List ℕ) → word ≢ codes "replay" → task_of (word ∷ []) ≡ None }
+/// Of all single words only `replay` and `flstore` ask for anything.
+pub fn lone_words_ask_for_a_script()
+    ensures { (word : List ℕ) → word ≢ codes "replay" → word ≢ codes "flstore" → task_of (word ∷ []) ≡ None }
 {}
 
 /// `gen` with the decimal text of any number of 64 bits is the task with that seed.

@@ -22,8 +22,9 @@ mod task;
 
 pub use arguments::read_words;
 pub use laws::{
-    gen_takes_a_seed, gen_takes_every_seed, gen_takes_no_more, lone_words_ask_for_a_replay,
-    other_words_ask_for_nothing, plain_words_stand_for_themselves, replay_takes_a_form,
-    replay_takes_no_more, replay_writes_logs, tasks_are_as_asked, words_stand_after_dashes,
+    flstore_stands_alone, gen_takes_a_seed, gen_takes_every_seed, gen_takes_no_more,
+    lone_words_ask_for_a_script, other_words_ask_for_nothing, plain_words_stand_for_themselves,
+    replay_takes_a_form, replay_takes_no_more, replay_writes_logs, tasks_are_as_asked,
+    words_stand_after_dashes,
 };
 pub use task::{Form, Task, WordsFault};

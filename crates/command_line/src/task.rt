@@ -32,6 +32,8 @@ pub enum Task {
         /// The number that the script is drawn from.
         seed: u64,
     },
+    /// The script of a log by itself is read and run, and the text of its run is written.
+    FlStore,
 }
 
 /// Why the words ask for nothing.

@@ -1,7 +1,7 @@
 //! Tests of the whole program as one call, as tables of rows. It has no code of its own and proves nothing for others.
 //!
 //! `statuses` has what is written where a stream or the memory fails, `words` the words of the command line, `forms` the four
-//! forms of a report byte by byte, `rows` scripts of sessions that share a log, and `hostile` scripts that are refused.
+//! forms of a report byte by byte, `rows` scripts of sessions that share a log, `hostile` scripts that are refused, and `storing` logs by themselves.
 #![tactic(auto)]
 
 #[cfg(test)]
@@ -12,5 +12,7 @@ mod hostile;
 mod rows;
 #[cfg(test)]
 mod statuses;
+#[cfg(test)]
+mod storing;
 #[cfg(test)]
 mod words;

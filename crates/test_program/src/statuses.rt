@@ -172,14 +172,14 @@ const UNKNOWN: &[u8] = b"\
     steps\n\
     end\n";
 
-// A script, the words and which calls fail, and what the program then ends with and writes.
-struct Case {
-    word: &'static str,
-    script: &'static [u8],
-    read_fails: u64,
-    write_fails: u64,
-    status: u8,
-    written: &'static [u8],
+/// A script, the words and which calls fail, and what the program then ends with and writes.
+pub struct Case {
+    pub word: &'static str,
+    pub script: &'static [u8],
+    pub read_fails: u64,
+    pub write_fails: u64,
+    pub status: u8,
+    pub written: &'static [u8],
 }
 
 const CASES: [Case; 22] = [
@@ -361,7 +361,8 @@ const CASES: [Case; 22] = [
     },
 ];
 
-fn ends(rt: &impl Abort, alloc: Global, case: &Case) -> Result<(), Fail> {
+/// Whether a call ends and writes as its case says.
+pub fn ends(rt: &impl Abort, alloc: Global, case: &Case) -> Result<(), Fail> {
     let mut read_fails = Seq::new(alloc);
     read_fails.push(case.read_fails)?;
     let mut write_fails = Seq::new(alloc);

@@ -21,7 +21,7 @@ struct Case {
     status: u8,
 }
 
-const CASES: [Case; 30] = [
+const CASES: [Case; 36] = [
     Case {
         words: &["replay"],
         status: 0,
@@ -61,6 +61,31 @@ const CASES: [Case; 30] = [
     Case {
         words: &["gen", "--", "7"],
         status: 0,
+    },
+    // The script is none of a log by itself.
+    Case {
+        words: &["flstore"],
+        status: 3,
+    },
+    Case {
+        words: &["flstore", "--"],
+        status: 3,
+    },
+    Case {
+        words: &["flstore", "3"],
+        status: 2,
+    },
+    Case {
+        words: &["flstore", "--form", "logs"],
+        status: 2,
+    },
+    Case {
+        words: &["flstore", "replay"],
+        status: 2,
+    },
+    Case {
+        words: &["FlStore"],
+        status: 2,
     },
     Case {
         words: &[],

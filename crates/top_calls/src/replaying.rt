@@ -4,21 +4,20 @@ ghost use Rattle.abstract_log.specs.Fits.{FitsLimits, FitsScript};
 ghost use Rattle.abstract_log.specs.Left.{left_of};
 ghost use Rattle.abstract_log.specs.Runs.{IsRun, world_of};
 ghost use Rattle.abstract_log.specs.Turns.{FitsStep};
+ghost use Rattle.script_text.specs.Meaning.{script_of};
 ghost use Rattle.top_calls.specs.Ending.{EndsReport, IsRefusedFor, WasRead, WritesFront, text_of};
 ghost use Rattle.top_calls.specs.Telling.{IsTold, IsToldOfSource};
 
-use crate::done::{Done, Refusal, bad_line, write_front};
+use crate::done::{Done, Refusal, bad_line, write_report};
+use crate::reading::read_whole;
 use abstract_log::{Left, Run, Script, StageLog};
 use command_line::Form;
-use cz_base::{NoMemory, ReadAllFault, Sink, Source, read_all};
+use cz_base::{NoMemory, Sink, Source};
 use report_text::{full, json, logs, summary};
 use script_text::{ScriptFault, read_script};
 use std::alloc::Global;
 use std::mem::drop;
 use world::Played;
-
-/// The longest script that is read, in bytes.
-pub const SCRIPT_LIMIT: usize = 4_194_304;
 
 /// A run, the turns that brought it, and its report.
 #[derive(Drop)]
@@ -38,7 +37,7 @@ pub fn read_and_replay<S: Source>(
     source: &mut S,
 ) -> Result<Told, Refusal>
     ensures ok { IfOk result (IsToldOfSource form (S.left source.old) (S.left source.new) (S.faults source.old) (S.faults source.new)) }
-    ensures refused { IfErr result (IsRefusedFor (S.left source.old) (S.left source.new) (S.faults source.old) (S.faults source.new)) }
+    ensures refused { IfErr result (IsRefusedFor script_of (S.left source.old) (S.left source.new) (S.faults source.old) (S.faults source.new)) }
 {
     let script = read(alloc, source)?;
     Ok(tell(alloc, form, script)?)
@@ -46,17 +45,12 @@ pub fn read_and_replay<S: Source>(
 
 // Reads all that the source still gives, as a script.
 fn read<S: Source>(alloc: Global, source: &mut S) -> Result<Script, Refusal>
-    ensures read { IfOk result (WasRead (S.left source.old) (S.left source.new) (S.faults source.old) (S.faults source.new)) }
+    ensures read { IfOk result (WasRead script_of (S.left source.old) (S.left source.new) (S.faults source.old) (S.faults source.new)) }
     ensures fits { IfOk result FitsScript }
     ensures steps { IfOk result (λ script. All (FitsStep script.workload) script.steps) }
-    ensures refused { IfErr result (IsRefusedFor (S.left source.old) (S.left source.new) (S.faults source.old) (S.faults source.new)) }
+    ensures refused { IfErr result (IsRefusedFor script_of (S.left source.old) (S.left source.new) (S.faults source.old) (S.faults source.new)) }
 {
-    let bytes = match read_all(alloc, source, SCRIPT_LIMIT) {
-        Ok(bytes) => bytes,
-        Err(ReadAllFault::ReadFault) => return Err(Refusal::ReadFault),
-        Err(ReadAllFault::TooLong { .. }) => return Err(Refusal::TooLong),
-        Err(ReadAllFault::NoMemory) => return Err(Refusal::NoMemory),
-    };
+    let bytes = read_whole(alloc, source)?;
     match read_script(alloc, &bytes) {
         Ok(script) => Ok(script),
         Err(ScriptFault::Bad { line, cause }) => {
@@ -110,9 +104,8 @@ pub fn report<K: Sink>(told: Told, sink: &mut K) -> Done
     ensures status { EndsReport (K.written sink.old) (K.written sink.new) (K.faults sink.old) (K.faults sink.new) told.text.items result.status }
 {
     let Told { run, stages, text } = told;
-    let whole = write_front(sink, &text);
     Done {
-        status: if whole { 0 } else { 5 },
+        status: write_report(sink, &text),
         run: Some(run),
         stages: Some(stages),
     }

@@ -1,4 +1,4 @@
-use Rattle.top_calls.proofs.Complete.{complete, generated_complete, words_asked, unasked, script_refused, read_failed, write_failed}
+use Rattle.top_calls.proofs.Complete.{complete, generated_complete, stored_complete, words_asked, unasked, script_refused, read_failed, write_failed}
 use Rattle.top_calls.proofs.Counts.{run_told, stages_told, kept, at_fault, report_fault, still_shows_none}
 use Rattle.top_calls.proofs.top.plain_run.Goals as goal
 
@@ -41,6 +41,10 @@ returns-clause-sure_sink g c still is = still_shows_none _ _ still (write_failed
 pub returns-clause-complete : goal.returns-clause-complete
 returns-clause-complete g c bytes script told asked spelled short no_read_fault no_write_fault =
     complete _ asked.0 _ bytes script _ _ _ _ _ _ _ _ c.do_asked.ensures asked.1 told spelled short no_read_fault no_write_fault
+
+pub returns-clause-stored : goal.returns-clause-stored
+returns-clause-stored g c bytes script told asked spelled short no_read_fault no_write_fault =
+    stored_complete _ _ bytes script _ _ _ _ _ _ _ _ c.do_asked.ensures asked told spelled short no_read_fault no_write_fault
 
 pub returns-clause-generated : goal.returns-clause-generated
 returns-clause-generated g c asked no_write_fault =
