@@ -3,7 +3,7 @@ use Rattle.std.specs.Prelude.{◌≡◌, ℕ, ◌+◌, ◌<◌, ◌≤◌, List,
 use Rattle.cz_base.specs.declared.limits.TheConstants.{COMMANDS, KEYS, LAST_RECORDS, MEMBERS, ROUND, SESSIONS, STEPS, TAGS}
 use Rattle.cz_base.specs.Text.{IsName, IsBody}
 use Rattle.abstract_log.specs.declared.command.Command.{Command}
-use Rattle.abstract_log.specs.declared.command.Command.TheVariants.{Append, Put, Get, Tx, Read, Last}
+use Rattle.abstract_log.specs.declared.command.Command.TheVariants.{Append, Put, Del, Get, Tx, Read, Last}
 use Rattle.abstract_log.specs.declared.command.SessionPlan.{SessionPlan}
 use Rattle.abstract_log.specs.declared.command.Workload.{Workload}
 use Rattle.abstract_log.specs.declared.script.Script.{Script}
@@ -27,6 +27,7 @@ pub record FitsSizes (sizes : Sizes) : Type 0 where
 abbrev pub FitsCommand : Command → Type 0
 FitsCommand (Append tags body) = (length tags ≤ TAGS) × (All IsName tags × IsBody body)
 FitsCommand (Put key body) = IsName key × IsBody body
+FitsCommand (Del key) = IsName key
 FitsCommand (Get key) = IsName key
 FitsCommand (Tx keys) = (1 ≤ length keys) × ((length keys ≤ KEYS) × All IsName keys)
 FitsCommand (Read lid) = IsPosition lid

@@ -31,6 +31,7 @@ fn raise_found(past: &mut Counts, items: &[Found])
         match item {
             Found::Absent => {}
             Found::At { place, .. } => raise_place(past, place),
+            Found::Deleted { place } => raise_place(past, place),
         }
     }
 }

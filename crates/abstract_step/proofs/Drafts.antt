@@ -3,7 +3,7 @@ use Rattle.std.proofs.Common.{◌≡◌, ℕ, true, List, Option, Some, None, Is
 use Rattle.causal_deps.specs.declared.record.Draft.{Draft}
 use Rattle.causal_deps.specs.Logs.{sealed}
 use Rattle.abstract_log.specs.declared.command.Command.{Command}
-use Rattle.abstract_log.specs.declared.command.Command.TheVariants.{Append, Put, Get, Tx, Read, Last}
+use Rattle.abstract_log.specs.declared.command.Command.TheVariants.{Append, Put, Del, Get, Tx, Read, Last}
 use Rattle.abstract_log.specs.declared.world.World.{World}
 use Rattle.abstract_log.specs.Commands.{draft_of, is_write}
 use Rattle.abstract_log.specs.Worlds.{standing_of, open_command}
@@ -12,6 +12,7 @@ use Rattle.abstract_step.specs.Taking.{IsDrafted}
 dep_is : (s k : ℕ) (past : List ℕ) (c : Command) (draft : Draft) → draft_of s k past c ≡ Some draft → (is_write c ≡ true) × (draft.dep ≡ past)
 dep_is s k past (Append tags body) draft is = (refl, cc)
 dep_is s k past (Put key body) draft is = (refl, cc)
+dep_is s k past (Del key) draft is = (refl, cc)
 dep_is s k past (Get key) draft is = cc
 dep_is s k past (Tx keys) draft is = cc
 dep_is s k past (Read lid) draft is = cc
@@ -28,6 +29,7 @@ drafted w s k draft is = let parts = from_open s k (standing_of w s).past (open_
 not_write : (s k : ℕ) (past : List ℕ) (c : Command) → draft_of s k past c ≡ None → is_write c ≡ true → ⊥
 not_write s k past (Append tags body) is writes = cc
 not_write s k past (Put key body) is writes = cc
+not_write s k past (Del key) is writes = cc
 not_write s k past (Get key) is writes = cc
 not_write s k past (Tx keys) is writes = cc
 not_write s k past (Read lid) is writes = cc

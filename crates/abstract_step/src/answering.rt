@@ -1,8 +1,8 @@
 //! What the answer of a command is.
-ghost use Rattle.std.specs.Prelude.{◌≡◌, ◌<◌, ◌≤◌, length, map, IfOk};
+ghost use Rattle.std.specs.Prelude.{◌≡◌, ◌<◌, ◌≤◌, length, map, IfOk, Some};
 ghost use Rattle.std.specs.Option.{option_copied};
 ghost use Rattle.causal_deps.specs.Logs.{record_at};
-ghost use Rattle.abstract_log.specs.Answers.{answer_to, found_at, has_tag, is_put_of, last_of, newest, places_with, read_in};
+ghost use Rattle.abstract_log.specs.Answers.{answer_to, found_at, found_record, has_tag, is_update_of, last_of, newest, places_with, read_in};
 ghost use Rattle.abstract_log.specs.Shapes.{IsShaped};
 ghost use Rattle.abstract_log.specs.Worlds.{log_of};
 
@@ -19,21 +19,21 @@ fn has_tag(tag: &Name, rec: &Record) -> bool
     rec.tags.as_slice().iter().any(|name| same_name(name, tag))
 }
 
-/// Whether the record puts a value under the key.
-fn is_put_of(key: &Name, rec: &Record) -> bool
-    ensures { result ≡ is_put_of key.now rec.now }
+/// Whether the record puts a value under the key, or deletes it.
+fn is_update_of(key: &Name, rec: &Record) -> bool
+    ensures { result ≡ is_update_of key.now rec.now }
 {
-    rec.kind == Kind::Put && has_tag(key, rec)
+    rec.kind.is_update() && has_tag(key, rec)
 }
 
-/// The greatest position up to s with a put of the key.
+/// The greatest position up to s with an update of the key.
 fn newest(log: &[Record], key: &Name, s: u64) -> Option<u64>
     requires { s ≤ length log.now }
     ensures { result ≡ newest log.now key.now s }
 {
     let mut p = s;
     while p > 0 {
-        if is_put_of(key, &log[(p - 1) as usize]) {
+        if is_update_of(key, &log[(p - 1) as usize]) {
             return Some(p);
         }
         p -= 1;
@@ -51,6 +51,25 @@ fn record_at(log: &[Record], p: u64) -> Option<&Record>
     log.get((p - 1) as usize)
 }
 
+/// What the record at position p tells of its key.
+fn found_by(p: u64, rec: &Record) -> Result<Found, NoMemory>
+    ensures { IfOk result (λ found. found ≡ found_record p (Some rec.now)) }
+{
+    let place = Place {
+        lid: p,
+        host: rec.host,
+        toid: rec.toid,
+    };
+    match rec.kind {
+        Kind::Append => Ok(Found::Absent),
+        Kind::Put => {
+            let body = rec.body.copy()?;
+            Ok(Found::At { place, body })
+        }
+        Kind::Del => Ok(Found::Deleted { place }),
+    }
+}
+
 /// What a look-up of the key finds at position s.
 fn found(log: &[Record], s: u64, key: &Name) -> Result<Found, NoMemory>
     requires { s ≤ length log.now }
@@ -62,15 +81,7 @@ fn found(log: &[Record], s: u64, key: &Name) -> Result<Found, NoMemory>
     let Some(rec) = record_at(log, p) else {
         return Ok(Found::Absent);
     };
-    let body = rec.body.copy()?;
-    Ok(Found::At {
-        place: Place {
-            lid: p,
-            host: rec.host,
-            toid: rec.toid,
-        },
-        body,
-    })
+    found_by(p, rec)
 }
 
 /// What look-ups of the keys find at position s.
@@ -158,6 +169,7 @@ pub(crate) fn answer_to(
     match command {
         Command::Append { .. } => Ok(None),
         Command::Put { .. } => Ok(None),
+        Command::Del { .. } => Ok(None),
         Command::Get { key } => {
             let found = found(log, s, key)?;
             let mut items = Seq::new(alloc);

@@ -1,6 +1,5 @@
 //! How a world takes a collection, and which record may be collected.
 ghost use Rattle.std.specs.Prelude.{◌≡◌, ℕ, ◌<◌, ◌≤◌, ◌↔◌, length, nat_lt, IfOk, OnOk, IsTrue, IsSomeAnd, Contains};
-ghost use Rattle.causal_deps.specs.declared.record.Kind.TheVariants.{Put as PutKind};
 ghost use Rattle.causal_deps.specs.Counts.{entry_of};
 ghost use Rattle.causal_deps.specs.Logs.{FitDatacentres, record_at};
 ghost use Rattle.abstract_log.specs.Shapes.{IsShaped};
@@ -55,7 +54,7 @@ fn is_collectable(world: &World, d: DcId, p: Lid) -> bool
 {
     let log = world.logs.as_slice()[d.number() as usize].as_slice();
     let rec = &log[(p - 1) as usize];
-    is_known_everywhere(world, d, rec) && (rec.kind == Kind::Append || is_replaced(log, p, rec))
+    is_known_everywhere(world, d, rec) && (rec.kind != Kind::Put || is_replaced(log, p, rec))
 }
 
 /// Whether every datacentre is known at d to have the record.
@@ -83,7 +82,7 @@ fn has_lid(lids: &[Lid], p: Lid) -> bool
     lids.contains(&p)
 }
 
-/// Whether a later put of the record's key stands in the log.
+/// Whether a later update of the record's key stands in the log.
 fn is_replaced(log: &[Record], p: Lid, rec: &Record) -> bool
     requires { (1 ≤ p) × (p ≤ length log.now) }
     ensures yes { IsTrue result → IsReplaced log.now p rec.now }
@@ -91,7 +90,7 @@ fn is_replaced(log: &[Record], p: Lid, rec: &Record) -> bool
 {
     for at in p as usize..log.len() {
         let later = &log[at];
-        if later.kind == Kind::Put && same_names(later.tags.as_slice(), rec.tags.as_slice()) {
+        if later.kind.is_update() && same_names(later.tags.as_slice(), rec.tags.as_slice()) {
             return true;
         }
     }

@@ -61,10 +61,17 @@ fn same_found(found: &Found, other: &Found) -> bool
         Found::Absent => match other {
             Found::Absent => true,
             Found::At { .. } => false,
+            Found::Deleted { .. } => false,
         },
         Found::At { place, body } => match other {
             Found::Absent => false,
             Found::At { place: p, body: b } => same_place(place, p) && same_body(body, b),
+            Found::Deleted { .. } => false,
+        },
+        Found::Deleted { place } => match other {
+            Found::Absent => false,
+            Found::At { .. } => false,
+            Found::Deleted { place: p } => same_place(place, p),
         },
     }
 }

@@ -6,19 +6,23 @@ use Rattle.std.proofs.lemmas.Bool.{cond-false, le-ltb, eqb-true, or_cases, ltb-t
 use Rattle.std.proofs.lemmas.List.{take_more, set-get_or, map-append}
 use Rattle.std.proofs.lemmas.Grind.{common_steps}
 use Rattle.std.proofs.lemmas.Option.{same_Some, slice_get_within, get_or_from_slice_get, slice_get_cases}
-use Rattle.causal_deps.specs.declared.answers.Newest.TheVariants.{Behind as BehindNewest, Found as FoundNewest, Absent as AbsentNewest}
+use Rattle.causal_deps.specs.declared.answers.Newest.TheVariants.{Behind as BehindNewest, Found as FoundNewest}
 use Rattle.causal_deps.specs.declared.answers.Pin.TheVariants.{Pinned, BelowFloor}
+use Rattle.causal_deps.specs.declared.record.Kind.{Kind}
+use Rattle.causal_deps.specs.declared.record.Kind.TheVariants.{Append as AppendKind, Put as PutKind, Del as DelKind}
 use Rattle.causal_deps.specs.declared.record.Record.{Record}
 use Rattle.causal_deps.specs.declared.record.Place.{Place}
 use Rattle.causal_deps.specs.Logs.{record_at}
 use Rattle.abstract_log.specs.declared.answer.Answer.TheVariants.{Items, Last}
 use Rattle.abstract_log.specs.declared.answer.Found.{Found}
+use Rattle.abstract_log.specs.declared.answer.Found.TheVariants.{At}
 use Rattle.abstract_log.specs.declared.answer.ReadAnswer.TheVariants.{Beyond, Gone}
 use Rattle.abstract_log.specs.declared.command.Command.{Command}
-use Rattle.abstract_log.specs.declared.command.Command.TheVariants.{Append as AppendCommand, Put as PutCommand, Get as GetCommand, Tx as TxCommand, Read as ReadCommand, Last as LastCommand}
+use Rattle.abstract_log.specs.declared.command.Command.TheVariants.{Append as AppendCommand, Put as PutCommand, Del as DelCommand, Get as GetCommand, Tx as TxCommand, Read as ReadCommand, Last as LastCommand}
 use Rattle.abstract_log.specs.Commands.{draft_of}
 use Rattle.cz_base.specs.declared.memory.NoMemory.{NoMemory}
-use Rattle.abstract_log.specs.Answers.{newest, passes, is_put_of, found_at, read_in, shown_record}
+use Rattle.abstract_log.specs.Answers.{newest, passes, place_at, is_update_of, found_at, found_by, found_place, found_record, read_in, shown_record}
+use Rattle.abstract_log.specs.Updates.{told_by, told_place, told_record}
 use Rattle.hyksos.specs.declared.looking.Seen.TheVariants.{Behind, Key, Places, Whole}
 use Rattle.hyksos.specs.Looking.{key_seen, next_key_seen, sight}
 use Rattle.hyksos.specs.Sessions.{SessionState, IsFoundAt, begun, is_look, keys_of, next_command, next_index, next_keys, reading, with_found}
@@ -27,22 +31,54 @@ use Rattle.hyksos.specs.declared.next.Next.{Next}
 use Rattle.hyksos.specs.declared.next.Next.TheVariants.{Submitted, Unacknowledged, Finished, Behind as BehindNext}
 use Rattle.hyksos.specs.Turns.{Taken, IsTaken, IsWritten, behind, found_at_pin, key_turn, look, look_turn, reply, rest, turn_of, turn_with, write_turn}
 
--- a newest value stands at position 1 or above
+-- a last update stands at position 1 or above
 newest_first : (log : List Record) (key : List ℕ) (s p : ℕ) → newest log key s ≡ Some p → 1 ≤ p
 newest_first log key zero p is = absurd (cc)
-newest_first log key (suc s) p is = by_test (passes (is_put_of key) (slice_get log s)) (newest_first log key s p) is
+newest_first log key (suc s) p is = by_test (passes (is_update_of key) (slice_get log s)) (newest_first log key s p) is
   where
     by_test : (b : Bool) → (newest log key s ≡ Some p → 1 ≤ p) → cond b (Some (suc s)) (newest log key s) ≡ Some p → 1 ≤ p
     by_test true _ same = omega (arith, same_Some (suc s) p same)
     by_test false before later = before later
 
-pub told_first : (log : List Record) (m : ShelfState) (key : List ℕ) (s p : ℕ) → newest_told log m key s ≡ FoundNewest p → 1 ≤ p
-told_first log m key s p is = by_test (ltb (covered_for m key) s) (newest log key s) refl is
+-- the last update is a put, and stands at p
+record IsPutAt (log : List Record) (last : Option ℕ) (p : ℕ) : Type 0 where
+  rec : Record
+  at : last ≡ Some p
+  stands : record_at log p ≡ Some rec
+  put : rec.kind ≡ PutKind
+
+put_told : (log : List Record) (last : Option ℕ) (p : ℕ) → told_place log last ≡ FoundNewest p → IsPutAt log last p
+put_told log None p told = absurd (cc)
+put_told log (Some q) p told = by_record (record_at log q) refl told
   where
-    by_test : (b : Bool) (o : Option ℕ) → newest log key s ≡ o → cond b (BehindNewest (covered_for m key)) (option_map_or FoundNewest o AbsentNewest) ≡ FoundNewest p → 1 ≤ p
-    by_test true o at bad = absurd (cc)
-    by_test false None at bad = absurd (cc)
-    by_test false (Some q) at same = let one : q ≡ p = cc in newest_first log key s p (at ∙ ap Some one)
+    by_kind : (r : Record) (k : Kind) → record_at log q ≡ Some r → r.kind ≡ k → told_by k (place_at q r) ≡ FoundNewest p → IsPutAt log (Some q) p
+    by_kind r AppendKind stands is bad = absurd (cc)
+    by_kind r PutKind stands is same = let one : q ≡ p = cc in record { rec = r; at = ap Some one; stands = ap (record_at log) (sym one) ∙ stands; put = is }
+    by_kind r DelKind stands is bad = absurd (cc)
+
+    by_record : (o : Option Record) → record_at log q ≡ o → told_record q o ≡ FoundNewest p → IsPutAt log (Some q) p
+    by_record None stands bad = absurd (cc)
+    by_record (Some r) stands same = by_kind r r.kind stands refl same
+
+-- where a put is told, the indexer of the key is not behind
+told_put : (log : List Record) (m : ShelfState) (key : List ℕ) (s p : ℕ) → newest_told log m key s ≡ FoundNewest p → (ltb (covered_for m key) s ≡ false) × IsPutAt log (newest log key s) p
+told_put log m key s p told = by_test (ltb (covered_for m key) s) refl told
+  where
+    by_test : (b : Bool) → ltb (covered_for m key) s ≡ b → cond b (BehindNewest (covered_for m key)) (told_place log (newest log key s)) ≡ FoundNewest p → (ltb (covered_for m key) s ≡ false) × IsPutAt log (newest log key s) p
+    by_test true low bad = absurd (cc)
+    by_test false reached same = (reached, put_told log (newest log key s) p same)
+
+pub told_first : (log : List Record) (m : ShelfState) (key : List ℕ) (s p : ℕ) → newest_told log m key s ≡ FoundNewest p → 1 ≤ p
+told_first log m key s p told = newest_first log key s p (told_put log m key s p told).1.at
+
+-- what is seen of a key where a put is told: its value
+pub put_seen : (log : List Record) (m : ShelfState) (key : List ℕ) (s p : ℕ) (r : Record) → newest_told log m key s ≡ FoundNewest p → record_at log p ≡ Some r → Key (At (place_at p r) r.body) ≡ key_seen log m key s
+put_seen log m key s p r told stands =
+    let here = told_put log m key s p told in
+    let same : here.1.rec ≡ r = same_Some here.1.rec r (sym here.1.stands ∙ stands) in
+    let put : r.kind ≡ PutKind = ap (λ (x : Record). x.kind) (sym same) ∙ here.1.put in
+    let found : found_at log s key ≡ At (place_at p r) r.body = ap (found_place log) here.1.at ∙ ap (found_record p) stands ∙ ap (λ k. found_by k (place_at p r) r.body) put in
+    sym (ap (λ b. cond b (Behind (covered_for m key)) (Key (found_at log s key))) here.0 ∙ ap Key found)
 
 -- a position that a test finds is in the list
 listed : (p : ℕ) (ps : List ℕ) → list_any (λ q. eqb q p) ps ≡ true → Contains ps p
@@ -141,6 +177,7 @@ keys_list_nothing log keys m found s places = by_key (slice_get keys found)
 pub seen_behind : (log : List Record) (c : Command) (m : ShelfState) (x : SessionState) (s covered : ℕ) → sight log c m (length x.found) s ≡ Behind covered → look log c m x s ≡ behind m x s covered
 seen_behind log (AppendCommand tags body) m x s covered is = absurd (cc)
 seen_behind log (PutCommand key body) m x s covered is = absurd (cc)
+seen_behind log (DelCommand key) m x s covered is = absurd (cc)
 seen_behind log (GetCommand key) m x s covered is = keys_behind log (key ∷ []) m x s covered is
 seen_behind log (TxCommand keys) m x s covered is = keys_behind log keys m x s covered is
 seen_behind log (ReadCommand p) m x s covered is = absurd (cc)
@@ -157,6 +194,7 @@ pub record IsGoneOn (log : List Record) (c : Command) (m : ShelfState) (x : Sess
 pub seen_key : (log : List Record) (c : Command) (m : ShelfState) (x : SessionState) (s : ℕ) (found : Found) → sight log c m (length x.found) s ≡ Key found → IsGoneOn log c m x s found
 seen_key log (AppendCommand tags body) m x s found is = absurd (cc)
 seen_key log (PutCommand key body) m x s found is = absurd (cc)
+seen_key log (DelCommand key) m x s found is = absurd (cc)
 seen_key log (GetCommand key) m x s found is = let next = keys_found log (key ∷ []) m x s found is in record { turn = next.turn; grown = next.grown }
 seen_key log (TxCommand keys) m x s found is = let next = keys_found log keys m x s found is in record { turn = next.turn; grown = next.grown }
 seen_key log (ReadCommand p) m x s found is = absurd (cc)
@@ -169,6 +207,7 @@ seen_key log (LastCommand tag n) m x s found is = absurd (by_test (ltb (covered_
 pub seen_whole : (log : List Record) (c : Command) (m : ShelfState) (x : SessionState) (s : ℕ) → is_look c ≡ true → sight log c m (length x.found) s ≡ Whole → look log c m x s ≡ found_at_pin log (keys_of c) m x s x.found
 seen_whole log (AppendCommand tags body) m x s looks is = absurd (cc)
 seen_whole log (PutCommand key body) m x s looks is = absurd (cc)
+seen_whole log (DelCommand key) m x s looks is = absurd (cc)
 seen_whole log (GetCommand key) m x s looks is = keys_whole log (key ∷ []) m x s is
 seen_whole log (TxCommand keys) m x s looks is = keys_whole log keys m x s is
 seen_whole log (ReadCommand p) m x s looks is = absurd (cc)
@@ -181,6 +220,7 @@ seen_whole log (LastCommand tag n) m x s looks is = absurd (by_test (ltb (covere
 pub seen_places : (log : List Record) (c : Command) (m : ShelfState) (x : SessionState) (s : ℕ) (places : List Place) → sight log c m (length x.found) s ≡ Places places → look log c m x s ≡ reply m x s (Last places)
 seen_places log (AppendCommand tags body) m x s places is = absurd (cc)
 seen_places log (PutCommand key body) m x s places is = absurd (cc)
+seen_places log (DelCommand key) m x s places is = absurd (cc)
 seen_places log (GetCommand key) m x s places is = absurd (keys_list_nothing log (key ∷ []) m (length x.found) s places is)
 seen_places log (TxCommand keys) m x s places is = absurd (keys_list_nothing log keys m (length x.found) s places is)
 seen_places log (ReadCommand p) m x s places is = absurd (cc)

@@ -3,7 +3,7 @@ use Rattle.std.specs.Prelude.{ℕ, if◌then◌else◌, nat_lt, List, [], ◌∷
 use Rattle.std.specs.Option.{option_map_or}
 use Rattle.causal_deps.specs.declared.record.Record.{Record}
 use Rattle.abstract_log.specs.declared.command.Command.{Command}
-use Rattle.abstract_log.specs.declared.command.Command.TheVariants.{Append as AppendCommand, Put as PutCommand, Get as GetCommand, Tx as TxCommand, Read as ReadCommand, Last as LastCommand}
+use Rattle.abstract_log.specs.declared.command.Command.TheVariants.{Append as AppendCommand, Put as PutCommand, Del as DelCommand, Get as GetCommand, Tx as TxCommand, Read as ReadCommand, Last as LastCommand}
 use Rattle.abstract_log.specs.Answers.{found_at}
 use Rattle.hyksos.specs.declared.looking.Seen.{Seen}
 use Rattle.hyksos.specs.declared.looking.Seen.TheVariants.{Behind, Key, Places, Whole}
@@ -23,6 +23,7 @@ next_key_seen log keys m found s = option_map_or (λ key. key_seen log m key s) 
 abbrev pub sight : List Record → Command → ShelfState → ℕ → ℕ → Seen
 sight log (AppendCommand tags body) m found s = Whole
 sight log (PutCommand key body) m found s = Whole
+sight log (DelCommand key) m found s = Whole
 sight log (GetCommand key) m found s = next_key_seen log (key ∷ []) m found s
 sight log (TxCommand keys) m found s = next_key_seen log keys m found s
 sight log (ReadCommand p) m found s = Whole

@@ -8,7 +8,7 @@ use Rattle.causal_deps.specs.declared.record.Place.{Place}
 use Rattle.abstract_log.specs.declared.answer.Answer.{Answer}
 use Rattle.abstract_log.specs.declared.answer.Found.{Found}
 use Rattle.abstract_log.specs.declared.command.Command.{Command}
-use Rattle.abstract_log.specs.declared.command.Command.TheVariants.{Append, Put, Get, Tx, Read, Last}
+use Rattle.abstract_log.specs.declared.command.Command.TheVariants.{Append, Put, Del, Get, Tx, Read, Last}
 use Rattle.abstract_log.specs.declared.world.Standing.{Standing}
 use Rattle.abstract_log.specs.Answers.{found_at, past_with, places_in}
 use Rattle.abstract_log.specs.Commands.{draft_of, is_write}
@@ -55,6 +55,7 @@ is_unanswered x = nat_lt x.standing.answered (length x.commands)
 abbrev pub keys_of : Command → List (List ℕ)
 keys_of (Append tags body) = []
 keys_of (Put key body) = []
+keys_of (Del key) = []
 keys_of (Get key) = key ∷ []
 keys_of (Tx keys) = keys
 keys_of (Read lid) = []
@@ -68,6 +69,7 @@ next_keys x = option_map_or keys_of (next_command x) []
 abbrev pub is_look : Command → Bool
 is_look (Append tags body) = false
 is_look (Put key body) = false
+is_look (Del key) = false
 is_look (Get key) = true
 is_look (Tx keys) = true
 is_look (Read lid) = false

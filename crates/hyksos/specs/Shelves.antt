@@ -1,8 +1,7 @@
 -- What a session reads through: a log, and how much of it can be read.
 use Rattle.std.specs.Prelude.{◌≡◌, ℕ, ◌≤◌, ◌%◌, if◌then◌else◌, nat_lt, List, length, take, Option, Some, None, slice_index, slice_index_or, slice_set, sum}
-use Rattle.std.specs.Option.{option_map_or}
 use Rattle.causal_deps.specs.declared.answers.Newest.{Newest}
-use Rattle.causal_deps.specs.declared.answers.Newest.TheVariants.{Behind, Found, Absent}
+use Rattle.causal_deps.specs.declared.answers.Newest.TheVariants.{Behind}
 use Rattle.causal_deps.specs.declared.answers.Pin.{Pin}
 use Rattle.causal_deps.specs.declared.answers.Pin.TheVariants.{Pinned, BelowFloor}
 use Rattle.causal_deps.specs.declared.answers.Shown.{Shown}
@@ -10,6 +9,7 @@ use Rattle.causal_deps.specs.declared.answers.Shown.TheVariants.{Filled, Gone, E
 use Rattle.causal_deps.specs.declared.record.Place.{Place}
 use Rattle.causal_deps.specs.declared.record.Record.{Record}
 use Rattle.abstract_log.specs.Answers.{last_of, newest, places_with}
+use Rattle.abstract_log.specs.Updates.{told_place}
 use Rattle.cz_base.specs.declared.limits.TheConstants.{MEMBERS, SESSIONS}
 
 -- its head, the collected positions, the collection floor, how far each indexer covers the log, and the pin of each session
@@ -30,9 +30,9 @@ pub record IsShelf (m : ShelfState) : Type 0 where
 abbrev pub covered_for : ShelfState → List ℕ → ℕ
 covered_for m name = slice_index m.covered (sum name % length m.covered)
 
--- what is told of the newest value of a key up to s
+-- what is told of the last update of a key up to s
 abbrev pub newest_told : List Record → ShelfState → List ℕ → ℕ → Newest
-newest_told log m key s = if nat_lt (covered_for m key) s then Behind (covered_for m key) else option_map_or Found (newest log key s) Absent
+newest_told log m key s = if nat_lt (covered_for m key) s then Behind (covered_for m key) else told_place log (newest log key s)
 
 -- the places of the last n records with the tag up to s
 abbrev pub last_at : List Record → ℕ → List ℕ → ℕ → List Place

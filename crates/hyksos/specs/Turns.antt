@@ -6,7 +6,7 @@ use Rattle.abstract_log.specs.declared.answer.Answer.{Answer}
 use Rattle.abstract_log.specs.declared.answer.Answer.TheVariants.{Items, Read, Last}
 use Rattle.abstract_log.specs.declared.answer.Found.{Found}
 use Rattle.abstract_log.specs.declared.command.Command.{Command}
-use Rattle.abstract_log.specs.declared.command.Command.TheVariants.{Append as AppendCommand, Put as PutCommand, Get as GetCommand, Tx as TxCommand, Read as ReadCommand, Last as LastCommand}
+use Rattle.abstract_log.specs.declared.command.Command.TheVariants.{Append as AppendCommand, Put as PutCommand, Del as DelCommand, Get as GetCommand, Tx as TxCommand, Read as ReadCommand, Last as LastCommand}
 use Rattle.abstract_log.specs.Answers.{found_at, read_in}
 use Rattle.abstract_log.specs.Commands.{draft_of}
 use Rattle.hyksos.specs.declared.next.Next.{Next}
@@ -62,6 +62,7 @@ rest m x = record { session = x; shelf = m; next = Finished }
 abbrev pub look : List Record → Command → ShelfState → SessionState → ℕ → Taken
 look log (AppendCommand tags body) m x s = rest m x
 look log (PutCommand key body) m x s = rest m x
+look log (DelCommand key) m x s = rest m x
 look log (GetCommand key) m x s = key_turn log (key ∷ []) m x s
 look log (TxCommand keys) m x s = key_turn log keys m x s
 look log (ReadCommand p) m x s = rest m x
@@ -98,6 +99,7 @@ read_turn log m x p =
 abbrev pub turn_with : List Record → ShelfState → SessionState → Command → Taken
 turn_with log m x (AppendCommand tags body) = write_turn m x (AppendCommand tags body)
 turn_with log m x (PutCommand key body) = write_turn m x (PutCommand key body)
+turn_with log m x (DelCommand key) = write_turn m x (DelCommand key)
 turn_with log m x (GetCommand key) = look_turn log m x (GetCommand key)
 turn_with log m x (TxCommand keys) = look_turn log m x (TxCommand keys)
 turn_with log m x (ReadCommand p) = read_turn log m x p

@@ -1,4 +1,4 @@
-//! The sessions of a key-value store over the log: puts, gets, get-transactions, reads and look-ups by tag, one
+//! The sessions of a key-value store over the log: puts, dels, gets, get-transactions, reads and look-ups by tag, one
 //! command after another.
 //!
 //! Model: a [`Session`] is seen as its commands, its standing, its pin and what it has found there, and a

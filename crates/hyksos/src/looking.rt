@@ -1,7 +1,7 @@
 //! What a shelf shows of a key, a tag or a position, seen at one position.
 ghost use Rattle.std.specs.Prelude.{◌≡◌, ◌<◌, ◌≤◌, ℕ, List, IfOk, IsSome, Some};
 ghost use Rattle.causal_deps.specs.declared.record.Record.{Record as RecordValue};
-ghost use Rattle.abstract_log.specs.Answers.{read_in, shown_record, found_record};
+ghost use Rattle.abstract_log.specs.Answers.{place_at, read_in, shown_record};
 ghost use Rattle.hyksos.specs.Shelves.{pin_of};
 ghost use Rattle.hyksos.specs.Looking.{key_seen, tag_seen};
 
@@ -21,7 +21,8 @@ pub(crate) enum Seen {
     Places(Seq<Place>),
 }
 
-/// The newest value of a key at a pinned position.
+/// What the last update of a key at a pinned position tells: a put its value, which is read where it stands, a del
+/// that there is none.
 pub(crate) fn look_up<V: Shelf>(shelf: &V, key: &Name, s: Lid) -> Result<Seen, NoMemory>
     requires log { (log : List RecordValue) × V.shows shelf.now log }
     requires pin { (n : ℕ) × (pin_of (V.held shelf.now) n ≡ Some s) }
@@ -30,8 +31,9 @@ pub(crate) fn look_up<V: Shelf>(shelf: &V, key: &Name, s: Lid) -> Result<Seen, N
     match shelf.newest(key, s) {
         Newest::Behind { covered } => Ok(Seen::Behind { covered }),
         Newest::Absent => Ok(Seen::Key(Found::Absent)),
+        Newest::Deleted { place } => Ok(Seen::Key(Found::Deleted { place })),
         Newest::Found { lid } => match shelf.shown(lid) {
-            Shown::Filled(rec) => Ok(Seen::Key(found_record(lid, rec)?)),
+            Shown::Filled(rec) => Ok(Seen::Key(found_value(lid, rec)?)),
             Shown::Gone => unreachable!(),
             Shown::Empty => unreachable!(),
         },
@@ -67,8 +69,9 @@ pub(crate) fn read<V: Shelf>(shelf: &V, lid: Lid, head: Lid) -> Result<ReadAnswe
     }
 }
 
-fn found_record(lid: Lid, rec: &Record) -> Result<Found, NoMemory>
-    ensures { IfOk result (λ found. found ≡ found_record lid (Some rec.now)) }
+// The value that a put at a position wrote.
+fn found_value(lid: Lid, rec: &Record) -> Result<Found, NoMemory>
+    ensures { IfOk result (λ found. found ≡ Found.At (place_at lid rec.now) rec.now.body) }
 {
     Ok(Found::At {
         place: Place {

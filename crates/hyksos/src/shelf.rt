@@ -22,12 +22,12 @@ pub trait Shelf {
     fn head(&self) -> Lid
         ensures { result ≡ (held self.now).head };
 
-    /// The newest put of a key at or below s, where the key's indexer covers the log up to s.
+    /// The last update of a key at or below s, where the key's indexer covers the log up to s.
     fn newest(&self, key: &Name, s: Lid) -> Newest
         requires { (log : List RecordValue) × shows self.now log }
         ensures { (log : List RecordValue) → shows self.now log → result ≡ newest_told log (held self.now) key.now s };
 
-    /// What stands at a position. It is filled where it is the newest value of a key at a pinned position.
+    /// What stands at a position. It is filled where it is a put and the last update of its key at a pinned position.
     fn shown(&self, lid: Lid) -> Shown<'_, Record>
         requires first { 1 ≤ lid }
         requires log { (log : List RecordValue) × shows self.now log }

@@ -45,6 +45,7 @@ impl Session {
             None => Ok(Next::Finished),
             Some(Command::Append { .. }) => self.write(),
             Some(Command::Put { .. }) => self.write(),
+            Some(Command::Del { .. }) => self.write(),
             Some(Command::Get { .. }) => self.look(shelf),
             Some(Command::Tx { .. }) => self.look(shelf),
             Some(Command::Read { lid }) => {
@@ -196,6 +197,7 @@ impl Session {
             Some(Command::Last { tag, count }) => list(shelf, tag, *count, s),
             Some(Command::Append { .. }) => unreachable!(),
             Some(Command::Put { .. }) => unreachable!(),
+            Some(Command::Del { .. }) => unreachable!(),
             Some(Command::Read { .. }) => unreachable!(),
             None => unreachable!(),
         }
@@ -244,6 +246,7 @@ impl Session {
             Some(Command::Last { .. }) => 0,
             Some(Command::Append { .. }) => 0,
             Some(Command::Put { .. }) => 0,
+            Some(Command::Del { .. }) => 0,
             Some(Command::Read { .. }) => 0,
             None => 0,
         }

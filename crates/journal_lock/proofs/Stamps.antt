@@ -8,7 +8,7 @@ use Rattle.causal_deps.specs.declared.record.Record.{Record}
 use Rattle.causal_deps.specs.declared.record.Draft.{Draft}
 use Rattle.causal_deps.specs.Logs.{sealed}
 use Rattle.abstract_log.specs.declared.command.Command.{Command}
-use Rattle.abstract_log.specs.declared.command.Command.TheVariants.{Append as AppendCommand, Put, Get, Tx, Read, Last}
+use Rattle.abstract_log.specs.declared.command.Command.TheVariants.{Append as AppendCommand, Put, Del, Get, Tx, Read, Last}
 use Rattle.abstract_log.specs.declared.command.Workload.{Workload}
 use Rattle.abstract_log.specs.declared.event.Event.{Event}
 use Rattle.abstract_log.specs.declared.event.Event.TheVariants.{Submit, Append, Receive, Add, Learn, Reply, Collect}
@@ -44,6 +44,7 @@ writes_of : (s k : ℕ) (past : List ℕ) (o : Option Command) → IsSomeAnd o (
 writes_of s k past None h = absurd h
 writes_of s k past (Some (AppendCommand tags body)) h = (_, refl)
 writes_of s k past (Some (Put key body)) h = (_, refl)
+writes_of s k past (Some (Del key)) h = (_, refl)
 writes_of s k past (Some (Get key)) h = cc
 writes_of s k past (Some (Tx keys)) h = cc
 writes_of s k past (Some (Read lid)) h = cc

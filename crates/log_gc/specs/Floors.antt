@@ -2,7 +2,7 @@
 use Rattle.std.specs.Prelude.{◌≡◌, ℕ, ◌<◌, ◌≤◌, ◌&&◌, min, max, Bool, true, false, nat_lt, nat_le, List, length, replicate, fold, Option, Some, None, IsSomeAnd, slice_set, slice_index_or}
 use Rattle.causal_deps.specs.declared.record.Record.{Record}
 use Rattle.causal_deps.specs.declared.record.Kind.{Kind}
-use Rattle.causal_deps.specs.declared.record.Kind.TheVariants.{Append, Put}
+use Rattle.causal_deps.specs.declared.record.Kind.TheVariants.{Append, Put, Del}
 use Rattle.awareness_table.specs.Awareness.{IsKnownEverywhere, is_known_everywhere}
 use Rattle.cz_base.specs.declared.limits.TheConstants.{SESSIONS}
 
@@ -44,7 +44,7 @@ pub record AreHeld (floor : ℕ) (pins : List (Option ℕ)) : Type 0 where
   pub above : (session s : ℕ) → slice_index_or pins session None ≡ Some s → floor ≤ s
 
 -- A record at lid that may go: it is at or below the floor, every datacentre is known to have it, and if it is a put
--- there is a later one of its key at or below the floor.
+-- there is a later update of its key at or below the floor.
 pub record IsCollectable (floor : ℕ) (table : List (List ℕ)) (lid : ℕ) (rec : Record) (newer : Option ℕ) : Type 0 where
   pub low : lid ≤ floor
   pub known : IsKnownEverywhere table rec.host rec.toid
@@ -56,10 +56,11 @@ abbrev pub replaced : ℕ → ℕ → Option ℕ → Bool
 replaced floor lid None = false
 replaced floor lid (Some n) = nat_lt lid n && nat_le n floor
 
--- only a put has to be replaced
+-- only a put has to be replaced: what a del says stays with the index
 abbrev pub unless_put : Kind → Bool → Bool
 unless_put Append is_replaced = true
 unless_put Put is_replaced = is_replaced
+unless_put Del is_replaced = true
 
 abbrev pub is_collectable : ℕ → List (List ℕ) → ℕ → Record → Option ℕ → Bool
 is_collectable floor table lid rec newer =

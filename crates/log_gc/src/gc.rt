@@ -86,7 +86,8 @@ impl Gc {
     }
 
     /// Whether the record at a position may go: it is at or below the floor, every datacentre is known to have it, and
-    /// if it is a put, a later put of its key stands at or below the floor. `newer` is the last such put.
+    /// if it is a put, a later update of its key stands at or below the floor. `newer` is where the last update of the key
+    /// at or below the floor stands, if that is known; an append and a del need none.
     pub fn may_collect(&self, lid: Lid, rec: &Record, aware: &Aware, newer: Option<Lid>) -> bool
         requires { rec.now.host < length aware.now.table }
         ensures exact { IsTrue result ↔ IsCollectable self.now.floor aware.now.table lid rec.now newer }

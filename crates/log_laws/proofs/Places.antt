@@ -12,14 +12,16 @@ use Rattle.causal_deps.specs.Logs.{count_of, record_at, IsCausal}
 use Rattle.causal_deps.proofs.Lists.{get_or-set_cases, slice_get_some}
 use Rattle.causal_deps.proofs.LogsLemmas.{record_at_place, count_of-take, count_of-take_more}
 use Rattle.abstract_log.specs.declared.command.Command.{Command}
-use Rattle.abstract_log.specs.declared.command.Command.TheVariants.{Append, Put, Get, Tx, Read, Last}
+use Rattle.causal_deps.specs.declared.record.Kind.{Kind}
+use Rattle.causal_deps.specs.declared.record.Kind.TheVariants.{Append as AppendKind, Put as PutKind, Del as DelKind}
+use Rattle.abstract_log.specs.declared.command.Command.TheVariants.{Append, Put, Del, Get, Tx, Read, Last}
 use Rattle.abstract_log.specs.declared.answer.Answer.{Answer}
 use Rattle.abstract_log.specs.declared.answer.Answer.TheVariants.{Items, Read as ReadOut, Last as LastOut}
 use Rattle.abstract_log.specs.declared.answer.ReadAnswer.{ReadAnswer}
 use Rattle.abstract_log.specs.declared.answer.ReadAnswer.TheVariants.{Beyond, Gone}
 use Rattle.abstract_log.specs.declared.world.World.{World}
 use Rattle.abstract_log.specs.Worlds.{log_of, gone_of}
-use Rattle.abstract_log.specs.Answers.{place_at, has_tag, newest, found_record, found_place, found_at, shown_record, read_in, places_with, last_of, answer_to, found_places, shown_places, places_in, past_with}
+use Rattle.abstract_log.specs.Answers.{place_at, has_tag, newest, found_record, found_place, found_at, found_by, shown_record, read_in, places_with, last_of, answer_to, found_places, shown_places, places_in, past_with}
 
 -- a fact on each place of a list is one on each element
 pub All-from_places : {A : Type 0} (P : A → Type 0) (xs : List A) → ((k : ℕ) (a : A) → slice_get xs k ≡ Some a → P a) → All P xs
@@ -42,8 +44,15 @@ counted_record xs k r causal is =
 
 found_record_counted : (xs : List Record) (p : ℕ) (o : Option Record) (place : Place) → IsCausal xs → record_at xs p ≡ o → found_places (found_record p o) ≡ Some place → IsCounted xs place
 found_record_counted xs p None place causal at is = cc
-found_record_counted xs p (Some r) place causal at is = let there = record_at_place xs p r at in
-    subst (IsCounted xs) (same_Some (place_at p r) place is) (counted_record xs there.0 r causal there.1)
+found_record_counted xs p (Some r) place causal at is = by_kind r.kind is
+  where
+    here : IsCounted xs (place_at p r)
+    here = let there = record_at_place xs p r at in counted_record xs there.0 r causal there.1
+
+    by_kind : (k : Kind) → found_places (found_by k (place_at p r) r.body) ≡ Some place → IsCounted xs place
+    by_kind AppendKind none = cc
+    by_kind PutKind same = subst (IsCounted xs) (same_Some (place_at p r) place same) here
+    by_kind DelKind same = subst (IsCounted xs) (same_Some (place_at p r) place same) here
 
 found_counted : (xs : List Record) (o : Option ℕ) (place : Place) → IsCausal xs → found_places (found_place xs o) ≡ Some place → IsCounted xs place
 found_counted xs None place causal is = cc
@@ -82,6 +91,7 @@ tagged_counted xs tag p (r ∷ rs) all =
 pub answer_counted : (w : World) (d : ℕ) (c : Command) (s : ℕ) (answer : Answer) → IsCausal (log_of w d) → answer_to w d c s ≡ Some answer → All (IsCounted (log_of w d)) (places_in answer)
 answer_counted w d (Append tags body) s answer causal is = cc
 answer_counted w d (Put key body) s answer causal is = cc
+answer_counted w d (Del key) s answer causal is = cc
 answer_counted w d (Get key) s answer causal is = let P : Answer → Type 0 = λ a. All (IsCounted (log_of w d)) (places_in a) in
     subst P (same_Some (Items (found_at (log_of w d) s key ∷ [])) answer is) (items_counted (log_of w d) s (key ∷ []) causal)
 answer_counted w d (Tx keys) s answer causal is = let P : Answer → Type 0 = λ a. All (IsCounted (log_of w d)) (places_in a) in

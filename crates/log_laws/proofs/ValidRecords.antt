@@ -1,5 +1,5 @@
 -- A record that a command within the limits wrote is in the ranges of its wire form.
-use Rattle.std.proofs.Common.{◌≡◌, ℕ, ◌-◌, ◌<◌, ◌≤◌, List, [], ◌∷◌, length, get_or, Some, slice_get, slice_index, refl, ap, sym, subst, ◌∙◌, inl, inr, arith, All, length-set}
+use Rattle.std.proofs.Common.{◌≡◌, ℕ, ◌-◌, ◌<◌, ◌≤◌, true, List, [], ◌∷◌, length, get_or, Some, slice_get, slice_index, refl, ap, sym, subst, ◌∙◌, inl, inr, arith, All, length-set}
 use Rattle.std.proofs.lemmas.Bool.{cases_eq, cases_lt}
 use Rattle.std.proofs.lemmas.Option.{same_Some, slice_get_within}
 use Rattle.std.proofs.lemmas.List.{get_or-set_same, get_or_default, get_or_past}
@@ -9,10 +9,11 @@ use Rattle.cz_base.specs.Text.{IsName, IsBody}
 use Rattle.causal_deps.specs.declared.record.Record.{Record}
 use Rattle.causal_deps.specs.declared.record.Draft.{Draft}
 use Rattle.causal_deps.specs.declared.record.Kind.{Kind}
-use Rattle.causal_deps.specs.declared.record.Kind.TheVariants.{Append as AppendKind, Put as PutKind}
+use Rattle.causal_deps.specs.declared.record.Kind.TheVariants.{Append as AppendKind, Put as PutKind, Del as DelKind}
+use Rattle.causal_deps.specs.Kinds.{is_update}
 use Rattle.causal_deps.specs.Logs.{IsReadyBy, sealed}
 use Rattle.abstract_log.specs.declared.command.Command.{Command}
-use Rattle.abstract_log.specs.declared.command.Command.TheVariants.{Append, Put, Get, Tx, Read, Last}
+use Rattle.abstract_log.specs.declared.command.Command.TheVariants.{Append, Put, Del, Get, Tx, Read, Last}
 use Rattle.abstract_log.specs.declared.command.SessionPlan.{SessionPlan}
 use Rattle.abstract_log.specs.declared.command.Workload.{Workload}
 use Rattle.abstract_log.specs.Commands.{draft_of, no_plan}
@@ -24,23 +25,38 @@ use Rattle.log_laws.proofs.WriteCounts.{commands_are_counted}
 
 -- the kind, tags and body of a write within the limits
 pub record IsInRanges (kind : Kind) (tags : List (List ℕ)) (body : List ℕ) : Type 0 where
-  pub key : kind ≡ PutKind → (name : List ℕ) × (tags ≡ name ∷ [])
+  pub key : is_update kind ≡ true → (name : List ℕ) × (tags ≡ name ∷ [])
+  pub silent : kind ≡ DelKind → body ≡ []
   pub few : length tags ≤ TAGS
   pub names : All IsName tags
   pub body_fits : IsBody body
 
-no_put : AppendKind ≡ PutKind → ⊥
-no_put is = cc
+no_update : is_update AppendKind ≡ true → ⊥
+no_update is = cc
+
+no_del : AppendKind ≡ DelKind → ⊥
+no_del is = cc
+
+put_no_del : PutKind ≡ DelKind → ⊥
+put_no_del is = cc
+
+-- no byte is a body
+empty_is_body : IsBody []
+empty_is_body = record { short = omega arith; allowed = refl }
 
 draft_ranges : (s k : ℕ) (past : List ℕ) (c : Command) (draft : Draft) → draft_of s k past c ≡ Some draft → FitsCommand c → IsInRanges draft.kind draft.tags draft.body
 draft_ranges s k past (Append tags body) draft is fits =
     let P : Draft → Type 0 = λ x. IsInRanges x.kind x.tags x.body in
     subst P (same_Some (record { session = s; index = k; kind = AppendKind; tags = tags; body = body; dep = past }) draft is)
-    (record { key = λ put. absurd (no_put put); few = fits.0; names = fits.1.0; body_fits = fits.1.1 })
+    (record { key = λ updates. absurd (no_update updates); silent = λ del. absurd (no_del del); few = fits.0; names = fits.1.0; body_fits = fits.1.1 })
 draft_ranges s k past (Put key body) draft is fits =
     let P : Draft → Type 0 = λ x. IsInRanges x.kind x.tags x.body in
     subst P (same_Some (record { session = s; index = k; kind = PutKind; tags = key ∷ []; body = body; dep = past }) draft is)
-    (record { key = λ _. (key, refl); few = omega arith; names = All-cons IsName key [] fits.0 (All-nil IsName); body_fits = fits.1 })
+    (record { key = λ _. (key, refl); silent = λ del. absurd (put_no_del del); few = omega arith; names = All-cons IsName key [] fits.0 (All-nil IsName); body_fits = fits.1 })
+draft_ranges s k past (Del key) draft is fits =
+    let P : Draft → Type 0 = λ x. IsInRanges x.kind x.tags x.body in
+    subst P (same_Some (record { session = s; index = k; kind = DelKind; tags = key ∷ []; body = []; dep = past }) draft is)
+    (record { key = λ _. (key, refl); silent = λ _. refl; few = omega arith; names = All-cons IsName key [] fits (All-nil IsName); body_fits = empty_is_body })
 draft_ranges s k past (Get key) draft is fits = cc
 draft_ranges s k past (Tx keys) draft is fits = cc
 draft_ranges s k past (Read lid) draft is fits = cc
@@ -91,6 +107,7 @@ valid_record load r counts limits h host size ready small few =
       dep = λ k d within. omega (arith, get_or_default r.dep k d 0 within, dep_small r counts COMMANDS ready own few k);
       before = own;
       key = ranges.key;
+      silent = ranges.silent;
       tags = ranges.few;
       names = ranges.names;
       body = ranges.body_fits;

@@ -4,12 +4,12 @@ use Rattle.std.proofs.lemmas.Option.{same_Some}
 use Rattle.std.proofs.lemmas.List.Elements.{All-nil}
 use Rattle.causal_deps.specs.declared.record.Record.{Record}
 use Rattle.causal_deps.specs.declared.record.Draft.{Draft}
-use Rattle.causal_deps.specs.declared.record.Kind.TheVariants.{Append as AppendKind, Put as PutKind}
+use Rattle.causal_deps.specs.declared.record.Kind.TheVariants.{Append as AppendKind, Put as PutKind, Del as DelKind}
 use Rattle.causal_deps.specs.Logs.{sealed}
 use Rattle.causal_deps.proofs.Lists.{get_or-set_cases, slice_get_push_cases}
 use Rattle.causal_deps.proofs.LogsLemmas.{nth_of_place}
 use Rattle.abstract_log.specs.declared.command.Command.{Command}
-use Rattle.abstract_log.specs.declared.command.Command.TheVariants.{Append as AppendCommand, Put, Get, Tx, Read, Last}
+use Rattle.abstract_log.specs.declared.command.Command.TheVariants.{Append as AppendCommand, Put, Del, Get, Tx, Read, Last}
 use Rattle.abstract_log.specs.declared.command.Workload.{Workload}
 use Rattle.abstract_log.specs.declared.event.Event.{Event}
 use Rattle.abstract_log.specs.declared.event.Event.TheVariants.{Submit, Append, Receive, Add, Learn, Reply, Collect}
@@ -35,6 +35,9 @@ module _ (load : Workload) (s k d toid : ℕ) (past : List ℕ) (there : s < len
   sealed_written (Put key body) writes at =
       let draft : Draft = record { session = s; index = k; kind = PutKind; tags = key ∷ []; body = body; dep = past } in
       (sealed draft d toid, refl, record { there = there; home = home; first = first; command = Put key body; is = at; draft = draft; drafted = refl; sealing = refl }, refl, refl)
+  sealed_written (Del key) writes at =
+      let draft : Draft = record { session = s; index = k; kind = DelKind; tags = key ∷ []; body = []; dep = past } in
+      (sealed draft d toid, refl, record { there = there; home = home; first = first; command = Del key; is = at; draft = draft; drafted = refl; sealing = refl }, refl, refl)
   sealed_written (Get key) writes at = cc
   sealed_written (Tx keys) writes at = cc
   sealed_written (Read lid) writes at = cc

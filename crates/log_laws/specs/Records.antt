@@ -1,10 +1,11 @@
 -- What every record of a log has: which command it was written by, and the ranges of its wire form.
-use Rattle.std.specs.Prelude.{◌≡◌, ℕ, ◌-◌, ◌<◌, ◌≤◌, List, [], ◌∷◌, length, Some, All, slice_get, slice_index}
+use Rattle.std.specs.Prelude.{◌≡◌, ℕ, ◌-◌, ◌<◌, ◌≤◌, true, List, [], ◌∷◌, length, Some, All, slice_get, slice_index}
 use Rattle.cz_base.specs.declared.limits.TheConstants.{COMMANDS, NUMBERS_END, SESSIONS, TAGS}
 use Rattle.cz_base.specs.Text.{IsName, IsBody}
 use Rattle.causal_deps.specs.declared.record.Record.{Record}
 use Rattle.causal_deps.specs.declared.record.Draft.{Draft}
-use Rattle.causal_deps.specs.declared.record.Kind.TheVariants.{Put as PutKind}
+use Rattle.causal_deps.specs.declared.record.Kind.TheVariants.{Del as DelKind}
+use Rattle.causal_deps.specs.Kinds.{is_update}
 use Rattle.causal_deps.specs.Logs.{sealed}
 use Rattle.abstract_log.specs.declared.command.Command.{Command}
 use Rattle.abstract_log.specs.declared.command.Workload.{Workload}
@@ -33,7 +34,8 @@ pub record IsValid (dcs : ℕ) (r : Record) : Type 0 where
   pub size : length r.dep ≡ dcs
   pub dep : All (λ n. n < NUMBERS_END) r.dep
   pub before : slice_index r.dep r.host ≡ r.toid - 1
-  pub key : r.kind ≡ PutKind → (name : List ℕ) × (r.tags ≡ name ∷ [])
+  pub key : is_update r.kind ≡ true → (name : List ℕ) × (r.tags ≡ name ∷ [])
+  pub silent : r.kind ≡ DelKind → r.body ≡ []
   pub tags : length r.tags ≤ TAGS
   pub names : All IsName r.tags
   pub body : IsBody r.body

@@ -3,11 +3,11 @@ use Rattle.std.proofs.Common.{◌≡◌, ℕ, zero, suc, ◌+◌, ◌-◌, ◌<�
 use Rattle.std.proofs.lemmas.List.{length-replicate, length-set, get_or-replicate, get_or-set_other, take_all, take_more_set}
 use Rattle.std.specs.List.{flat_map}
 use Rattle.byteorder.specs.Endian.{big_bytes}
-use Rattle.cz_base.specs.Text.{IsName, IsBody, is_name_byte, is_body_byte}
+use Rattle.cz_base.specs.Text.{IsName, is_name_byte, is_body_byte}
 use Rattle.causal_deps.specs.Counts.{greater, raised_row, row_of, zero_table}
 use Rattle.record_codec.specs.declared.fault.DecodeFault.{DecodeFault}
 use Rattle.record_codec.specs.declared.reader.Own.{Own}
-use Rattle.record_codec.specs.Fields.{AreNames, AreEntries, AreRows, FitsOwn, IsEntry, greatest_entry, least_entry}
+use Rattle.record_codec.specs.Fields.{AreNames, AreEntries, AreRows, FitsOwn, IsEntry, IsShortBody, greatest_entry, least_entry}
 use Rattle.record_codec.specs.Parts.{IsWord, IsCode, IsText, IsWithin, AreEach, IsSized, sized, as_it_is}
 use Rattle.record_codec.specs.Reading.{Place, Took, Fails}
 use Rattle.record_codec.specs.Wire.{name_bytes, names_bytes, body_bytes, counts_bytes, table_bytes}
@@ -56,33 +56,33 @@ name_code =
     let code : IsCode (IsSized 1 64 length (IsText is_name_byte)) (sized 1 length as_it_is) = sized_code 1 1 64 length (IsText is_name_byte) as_it_is (omega arith) (text_code is_name_byte) in
     record { apart = λ x y in_x in_y. code.apart x y (name_sized x in_x) (name_sized y in_y) }
 
-IsBody_there : (w : List ℕ) → IsWord (IsSized 0 1024 length (IsText is_body_byte)) (sized 2 length as_it_is) w → IsWord IsBody body_bytes w
-IsBody_there w word = record {
+IsShortBody_there : (most : ℕ) → most ≤ 1024 → (w : List ℕ) → IsWord (IsSized 0 most length (IsText is_body_byte)) (sized 2 length as_it_is) w → IsWord (IsShortBody most) body_bytes w
+IsShortBody_there most small w word = record {
   value = word.value;
-  allowed = record { short = word.allowed.within.greatest; allowed = word.allowed.items.passes };
+  allowed = record { few = word.allowed.within.greatest; body = record { short = omega (arith, word.allowed.within.greatest, small); allowed = word.allowed.items.passes } };
   spelled = word.spelled;
 }
 
-body_sized : (body : List ℕ) → IsBody body → IsSized 0 1024 length (IsText is_body_byte) body
-body_sized body is = record { within = record { least = omega arith; greatest = is.short }; items = record { size = refl; passes = is.allowed } }
+body_sized : (most : ℕ) (body : List ℕ) → IsShortBody most body → IsSized 0 most length (IsText is_body_byte) body
+body_sized most body is = record { within = record { least = omega arith; greatest = is.few }; items = record { size = refl; passes = is.body.allowed } }
 
-IsBody_back : (w : List ℕ) → IsWord IsBody body_bytes w → IsWord (IsSized 0 1024 length (IsText is_body_byte)) (sized 2 length as_it_is) w
-IsBody_back w word = record { value = word.value; allowed = body_sized word.value word.allowed; spelled = word.spelled }
+IsShortBody_back : (most : ℕ) (w : List ℕ) → IsWord (IsShortBody most) body_bytes w → IsWord (IsSized 0 most length (IsText is_body_byte)) (sized 2 length as_it_is) w
+IsShortBody_back most w word = record { value = word.value; allowed = body_sized most word.value word.allowed; spelled = word.spelled }
 
-pub body_size_fails : (p : Place) (f : DecodeFault) → Fails (IsWord (IsWithin 0 1024) (big_bytes 2)) p f → Fails (IsWord IsBody body_bytes) p f
-body_size_fails p f h =
-    fails_same p IsBody_there IsBody_back f
-    (fails_size 2 0 1024 length (IsText is_body_byte) as_it_is p (text_size is_body_byte) (λ n within. (replicate n 65, text_made is_body_byte 65 n refl)) f h)
+pub body_size_fails : {most : ℕ} (p : Place) → most ≤ 1024 → (f : DecodeFault) → Fails (IsWord (IsWithin 0 most) (big_bytes 2)) p f → Fails (IsWord (IsShortBody most) body_bytes) p f
+body_size_fails {most} p small f h =
+    fails_same p (IsShortBody_there most small) (IsShortBody_back most) f
+    (fails_size 2 0 most length (IsText is_body_byte) as_it_is p (text_size is_body_byte) (λ n within. (replicate n 65, text_made is_body_byte 65 n refl)) f h)
 
-pub body_text_fails : {p q : Place} {n : ℕ} → IsWithin 0 1024 n → Took p q (big_bytes 2 n) → (f : DecodeFault)
-    → Fails (IsWord (IsText is_body_byte n) as_it_is) q f → Fails (IsWord IsBody body_bytes) p f
-body_text_fails {p} within took f h =
-    fails_same p IsBody_there IsBody_back f (fails_items 2 0 1024 length (IsText is_body_byte) as_it_is (text_size is_body_byte) (omega arith) within took f h)
+pub body_text_fails : {most : ℕ} {p q : Place} {n : ℕ} → most ≤ 1024 → IsWithin 0 most n → Took p q (big_bytes 2 n) → (f : DecodeFault)
+    → Fails (IsWord (IsText is_body_byte n) as_it_is) q f → Fails (IsWord (IsShortBody most) body_bytes) p f
+body_text_fails {most} {p} small within took f h =
+    fails_same p (IsShortBody_there most small) (IsShortBody_back most) f (fails_items 2 0 most length (IsText is_body_byte) as_it_is (text_size is_body_byte) (omega (arith, small)) within took f h)
 
-pub body_code : IsCode IsBody body_bytes
-body_code =
-    let code : IsCode (IsSized 0 1024 length (IsText is_body_byte)) (sized 2 length as_it_is) = sized_code 2 0 1024 length (IsText is_body_byte) as_it_is (omega arith) (text_code is_body_byte) in
-    record { apart = λ x y in_x in_y. code.apart x y (body_sized x in_x) (body_sized y in_y) }
+pub body_code : (most : ℕ) → most ≤ 1024 → IsCode (IsShortBody most) body_bytes
+body_code most small =
+    let code : IsCode (IsSized 0 most length (IsText is_body_byte)) (sized 2 length as_it_is) = sized_code 2 0 most length (IsText is_body_byte) as_it_is (omega (arith, small)) (text_code is_body_byte) in
+    record { apart = λ x y in_x in_y. code.apart x y (body_sized most x in_x) (body_sized most y in_y) }
 
 -- ---- names
 

@@ -3,7 +3,7 @@ use Rattle.std.proofs.Common.{◌≡◌, ℕ, ◌-◌, ◌<◌, ◌≤◌, ◌^�
 use Rattle.std.proofs.lemmas.Bool.{cases_eq}
 use Rattle.byteorder.specs.Endian.{big_bytes}
 use Rattle.causal_deps.specs.declared.record.Kind.{Kind}
-use Rattle.causal_deps.specs.declared.record.Kind.TheVariants.{Append, Put}
+use Rattle.causal_deps.specs.declared.record.Kind.TheVariants.{Append, Put, Del}
 use Rattle.record_codec.specs.declared.fault.DecodeFault.{DecodeFault}
 use Rattle.record_codec.specs.declared.record.Head.{Head}
 use Rattle.record_codec.specs.Fields.{IsHead, IsKind, head_word, kind_bytes}
@@ -16,36 +16,45 @@ use Rattle.record_codec.proofs.Places.{fails_same, fails_first, fails_next}
 
 -- ---- the kind
 
-kind_of : (n : ℕ) → IsWithin 1 2 n → (kind : Kind) × (kind_number kind ≡ n)
+kind_of : (n : ℕ) → IsWithin 1 3 n → (kind : Kind) × (kind_number kind ≡ n)
 kind_of n within = elim (cases_eq n 1) [
   | inl one ↦ (Append, sym one)
-  | inr other ↦ (Put, omega (arith, within.least, within.greatest))
+  | inr other ↦ elim (cases_eq n 2) [
+    | inl two ↦ (Put, sym two)
+    | inr others ↦ (Del, omega (arith, within.least, within.greatest))
+  ]
 ]
 
-kind_there : (w : List ℕ) → IsWord (IsWithin 1 2) (big_bytes 1) w → IsWord IsKind kind_bytes w
+kind_there : (w : List ℕ) → IsWord (IsWithin 1 3) (big_bytes 1) w → IsWord IsKind kind_bytes w
 kind_there w word = let k = kind_of word.value word.allowed in
     record { value = k.0; allowed = tt; spelled = word.spelled ∙ ap (λ (n : ℕ). big_bytes 1 n) (sym k.1) }
 
-kind_within : (kind : Kind) → IsWithin 1 2 (kind_number kind)
+kind_within : (kind : Kind) → IsWithin 1 3 (kind_number kind)
 kind_within Append = record { least = omega arith; greatest = omega arith }
 kind_within Put = record { least = omega arith; greatest = omega arith }
+kind_within Del = record { least = omega arith; greatest = omega arith }
 
-kind_back : (w : List ℕ) → IsWord IsKind kind_bytes w → IsWord (IsWithin 1 2) (big_bytes 1) w
+kind_back : (w : List ℕ) → IsWord IsKind kind_bytes w → IsWord (IsWithin 1 3) (big_bytes 1) w
 kind_back w word = record { value = kind_number word.value; allowed = kind_within word.value; spelled = word.spelled }
 
-pub kind_fails : (p : Place) (f : DecodeFault) → Fails (IsWord (IsWithin 1 2) (big_bytes 1)) p f → Fails (IsWord IsKind kind_bytes) p f
+pub kind_fails : (p : Place) (f : DecodeFault) → Fails (IsWord (IsWithin 1 3) (big_bytes 1)) p f → Fails (IsWord IsKind kind_bytes) p f
 kind_fails p f h = fails_same p kind_there kind_back f h
 
 kind_same : (x y : Kind) → kind_number x ≡ kind_number y → x ≡ y
 kind_same Append Append e = refl
 kind_same Append Put e = absurd (omega (arith, e))
+kind_same Append Del e = absurd (omega (arith, e))
 kind_same Put Append e = absurd (omega (arith, e))
 kind_same Put Put e = refl
+kind_same Put Del e = absurd (omega (arith, e))
+kind_same Del Append e = absurd (omega (arith, e))
+kind_same Del Put e = absurd (omega (arith, e))
+kind_same Del Del e = refl
 
 pub kind_code : IsCode IsKind kind_bytes
 kind_code = record {
   apart = λ x y in_x in_y.
-      let code : IsCode (IsWithin 1 2) (big_bytes 1) = number_code 1 1 2 (omega arith) in
+      let code : IsCode (IsWithin 1 3) (big_bytes 1) = number_code 1 1 3 (omega arith) in
       elim (code.apart (kind_number x) (kind_number y) (kind_within x) (kind_within y)) [
         | inl same ↦ inl (kind_same x y same)
         | inr differ ↦ inr differ

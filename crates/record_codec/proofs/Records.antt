@@ -2,17 +2,17 @@
 use Rattle.std.proofs.Common.{◌≡◌, ℕ, zero, suc, ◌+◌, ◌-◌, ◌<◌, ◌≤◌, ◌^◌, Bool, cond, Some, List, [], ◌∷◌, length, get_or, refl, ap, sym, ◌∙◌, subst, inl, inr, arith}
 use Rattle.std.proofs.lemmas.Bool.{cases_eq, eq-eqb, ne_eqb}
 use Rattle.std.proofs.lemmas.List.{get_or_default}
-use Rattle.cz_base.specs.Text.{IsName, IsBody}
+use Rattle.cz_base.specs.Text.{IsName}
 use Rattle.causal_deps.specs.declared.record.Kind.{Kind}
-use Rattle.causal_deps.specs.declared.record.Kind.TheVariants.{Append, Put}
+use Rattle.causal_deps.specs.declared.record.Kind.TheVariants.{Append, Put, Del}
 use Rattle.causal_deps.specs.declared.record.Record.{Record}
 use Rattle.record_codec.specs.declared.fault.DecodeFault.{DecodeFault}
 use Rattle.record_codec.specs.declared.reader.Own.{Own}
 use Rattle.record_codec.specs.declared.record.Head.{Head}
-use Rattle.record_codec.specs.Fields.{AreEntries, AreNames, FitsOwn, IsEntry, IsHead, IsRecord, head_word, least_entry, greatest_entry}
+use Rattle.record_codec.specs.Fields.{AreEntries, AreNames, FitsOwn, IsEntry, IsHead, IsRecord, IsShortBody, head_word, least_entry, greatest_entry}
 use Rattle.record_codec.specs.Parts.{IsWord, IsCode, IsSized, AreEach, Both, joined}
 use Rattle.record_codec.specs.Reading.{Place, Took, Fails}
-use Rattle.record_codec.specs.Wire.{body_bytes, counts_bytes, fewest_tags, most_tags, names_bytes, record_bytes}
+use Rattle.record_codec.specs.Wire.{body_bytes, counts_bytes, fewest_tags, most_body, most_tags, names_bytes, record_bytes}
 use Rattle.record_codec.proofs.Composing.{Both_code}
 use Rattle.record_codec.proofs.Several.{each_length}
 use Rattle.record_codec.proofs.Fields.{body_code, entries_code, entries_made, least_le_greatest, names_code, names_made}
@@ -73,7 +73,7 @@ pub record HasParts (dcs low high : ℕ) (own : Own) (r : Record) : Type 0 where
   pub own_count : own.count ≡ r.toid - 1
   pub dep : AreEntries (Some own) dcs r.dep
   pub tags : IsSized (fewest_tags r.kind) (most_tags r.kind) length AreNames r.tags
-  pub body : IsBody r.body
+  pub body : IsShortBody (most_body r.kind) r.body
 
 pub record_of_parts : {dcs low high : ℕ} {own : Own} {r : Record} → high < dcs → HasParts dcs low high own r → IsRecord dcs low high r
 record_of_parts {dcs} {low} {high} {own} {r} fits h =
@@ -98,10 +98,11 @@ record_of_parts {dcs} {low} {high} {own} {r} fits h =
         own = own_is ∙ h.own_count;
         tags_first = h.tags.within.least;
         tags = h.tags.within.greatest;
+        body = h.body.few;
       };
       texts = record {
         tags = λ k d within. each_at (λ (_ : ℕ). IsName) 0 (length r.tags) r.tags h.tags.items k d within;
-        body = h.body;
+        body = h.body.body;
       };
       host = h.head.host;
     }
@@ -128,13 +129,13 @@ parts_of_record {dcs} {low} {high} {r} h =
         within = record { least = h.fits.tags_first; greatest = h.fits.tags };
         items = each_of (λ (_ : ℕ). IsName) 0 (length r.tags) r.tags refl (λ k d within. h.texts.tags k d within);
       };
-      body = h.texts.body;
+      body = record { few = h.fits.body; body = h.texts.body };
     }
 
 -- ---- a record as pairs in pairs
 
 abbrev IsFromTags : Kind → List (List ℕ) × List ℕ → Type 0
-IsFromTags kind = Both (IsSized (fewest_tags kind) (most_tags kind) length AreNames) (λ _. IsBody)
+IsFromTags kind = Both (IsSized (fewest_tags kind) (most_tags kind) length AreNames) (λ _. IsShortBody (most_body kind))
 
 abbrev from_tags : List (List ℕ) × List ℕ → List ℕ
 from_tags = joined names_bytes body_bytes
@@ -187,9 +188,15 @@ record_back dcs low high w word = record {
 fewest_le_most : (kind : Kind) → (fewest_tags kind ≤ most_tags kind) × (most_tags kind < 256)
 fewest_le_most Append = (omega arith, omega arith)
 fewest_le_most Put = (omega arith, omega arith)
+fewest_le_most Del = (omega arith, omega arith)
 
-body_made : (body : List ℕ) × IsBody body
-body_made = ([], record { short = omega arith; allowed = refl })
+most_body_small : (kind : Kind) → most_body kind ≤ 1024
+most_body_small Append = omega arith
+most_body_small Put = omega arith
+most_body_small Del = omega arith
+
+body_made : (most : ℕ) → (body : List ℕ) × IsShortBody most body
+body_made most = ([], record { few = omega arith; body = record { short = omega arith; allowed = refl } })
 
 tags_made : (kind : Kind) → (names : List (List ℕ)) × IsSized (fewest_tags kind) (most_tags kind) length AreNames names
 tags_made kind =
@@ -199,7 +206,7 @@ tags_made kind =
     (names.0, record { within = record { least = omega arith; greatest = omega (arith, (fewest_le_most kind).0) }; items = subst P (sym size) names.1 })
 
 from_tags_made : (kind : Kind) → (x : List (List ℕ) × List ℕ) × IsFromTags kind x
-from_tags_made kind = let names = tags_made kind in let body = body_made in ((names.0, body.0), record { first = names.1; second = body.1 })
+from_tags_made kind = let names = tags_made kind in let body = body_made (most_body kind) in ((names.0, body.0), record { first = names.1; second = body.1 })
 
 own_fits : (low high : ℕ) (head : Head) → IsHead low high head → FitsOwn (Some (own_of head))
 own_fits low high head is = omega (arith, is.toid.greatest)
@@ -256,22 +263,23 @@ tags_fails dcs low high least most own head dep {p} {q} {r} small fits host coun
     let P : ℕ → Type 0 = λ n. Fails (IsWord (IsSized n most length AreNames) names_bytes) r f in
     let Q : ℕ → Type 0 = λ n. Fails (IsWord (IsSized (fewest_tags head.kind) n length AreNames) names_bytes) r f in
     past_dep dcs low high own head dep small fits host count is took is_dep took_dep f
-    (fails_first (λ _. IsBody) names_bytes body_bytes r (λ x in_x. body_made) f (subst Q is_most (subst P is_least h)))
+    (fails_first (λ _. IsShortBody (most_body head.kind)) names_bytes body_bytes r (λ x in_x. body_made (most_body head.kind)) f (subst Q is_most (subst P is_least h)))
 
-pub body_fails : (dcs low high least most : ℕ) (own : Own) (head : Head) (dep : List ℕ) (tags : List (List ℕ)) {p q r s : Place} → dcs < 256 → high < dcs → own.host ≡ head.host → own.count ≡ head.toid - 1
+pub body_fails : (dcs low high least most limit : ℕ) (own : Own) (head : Head) (dep : List ℕ) (tags : List (List ℕ)) {p q r s : Place} → dcs < 256 → high < dcs → own.host ≡ head.host → own.count ≡ head.toid - 1
     → IsHead low high head → Took p q (head_word dcs head) → AreEntries (Some own) dcs dep → Took q r (counts_bytes dep)
-    → least ≡ fewest_tags head.kind → most ≡ most_tags head.kind → IsSized least most length AreNames tags → Took r s (names_bytes tags) → (f : DecodeFault)
-    → Fails (IsWord IsBody body_bytes) s f → Fails (IsWord (IsRecord dcs low high) (record_bytes dcs)) p f
-body_fails dcs low high least most own head dep tags small fits host count is took is_dep took_dep is_least is_most is_tags took_tags f h =
+    → least ≡ fewest_tags head.kind → most ≡ most_tags head.kind → IsSized least most length AreNames tags → Took r s (names_bytes tags) → limit ≡ most_body head.kind → (f : DecodeFault)
+    → Fails (IsWord (IsShortBody limit) body_bytes) s f → Fails (IsWord (IsRecord dcs low high) (record_bytes dcs)) p f
+body_fails dcs low high least most limit own head dep tags {p} {q} {r} {s} small fits host count is took is_dep took_dep is_least is_most is_tags took_tags is_limit f h =
+    let B : ℕ → Type 0 = λ n. Fails (IsWord (IsShortBody n) body_bytes) s f in
     let P : ℕ → Type 0 = λ n. IsSized n most length AreNames tags in
     let Q : ℕ → Type 0 = λ n. IsSized (fewest_tags head.kind) n length AreNames tags in
     past_dep dcs low high own head dep small fits host count is took is_dep took_dep f
-    (fails_next (λ _. IsBody) body_bytes (names_code (fewest_tags head.kind) (most_tags head.kind) (fewest_le_most head.kind).1) (subst Q is_most (subst P is_least is_tags)) took_tags f h)
+    (fails_next (λ _. IsShortBody (most_body head.kind)) body_bytes (names_code (fewest_tags head.kind) (most_tags head.kind) (fewest_le_most head.kind).1) (subst Q is_most (subst P is_least is_tags)) took_tags f (subst B is_limit h))
 
 pub record_code : (dcs low high : ℕ) → dcs < 256 → high < dcs → IsCode (IsRecord dcs low high) (record_bytes dcs)
 record_code dcs low high small fits =
     let tags : (kind : Kind) → IsCode (IsFromTags kind) from_tags = λ kind.
-    Both_code (names_code (fewest_tags kind) (most_tags kind) (fewest_le_most kind).1) (λ x in_x. body_code) in
+    Both_code (names_code (fewest_tags kind) (most_tags kind) (fewest_le_most kind).1) (λ x in_x. body_code (most_body kind) (most_body_small kind)) in
     let dep : (head : Head) → IsHead low high head → IsCode (IsFromDep dcs head) from_dep = λ head is.
     Both_code (entries_code (Some (own_of head)) dcs (own_fits low high head is)) (λ x in_x. tags head.kind) in
     let whole : IsCode (IsFromHead dcs low high) (from_head dcs) = Both_code (head_code dcs low high small (omega arith)) dep in
@@ -281,6 +289,10 @@ record_code dcs low high small fits =
         | inr differ ↦ inr differ
       ];
     }
+
+-- a body within a bound that is given in other words
+pub body_as : (most limit : ℕ) (body : List ℕ) → most ≡ limit → IsShortBody most body → IsShortBody limit body
+body_as most limit body is_limit is = record { few = omega (arith, is.few); body = is.body }
 
 -- tags in a range that is given in other words
 pub tags_as : (least most low high : ℕ) (tags : List (List ℕ)) → least ≡ low → most ≡ high → IsSized least most length AreNames tags → IsSized low high length AreNames tags

@@ -1,8 +1,8 @@
 -- The fields of a record and a message as parts: which values each may have.
-use Rattle.std.specs.Prelude.{ℕ, ◌-◌, ◌<◌, ◌==◌, if◌then◌else◌, Option, Some, None, List, All}
+use Rattle.std.specs.Prelude.{ℕ, ◌-◌, ◌<◌, ◌≤◌, ◌==◌, if◌then◌else◌, Option, Some, None, List, length, All}
 use Rattle.byteorder.specs.Endian.{big_bytes}
 use Rattle.cz_base.specs.declared.limits.TheConstants.{COMMANDS, NUMBERS_END, SESSIONS}
-use Rattle.cz_base.specs.Text.{IsName}
+use Rattle.cz_base.specs.Text.{IsName, IsBody}
 use Rattle.causal_deps.specs.declared.record.Kind.{Kind}
 use Rattle.causal_deps.specs.declared.record.Record.{Record}
 use Rattle.record_codec.specs.declared.message.Message.{Message}
@@ -39,6 +39,11 @@ AreEntries own dcs counts = AreEach (IsEntry own) 0 dcs counts
 -- as many rows of entries as there are datacentres
 abbrev pub AreRows : ℕ → List (List ℕ) → Type 0
 AreRows dcs table = AreEach (λ _. AreEntries None dcs) 0 dcs table
+
+-- a body of at most so many bytes
+pub record IsShortBody (most : ℕ) (bytes : List ℕ) : Type 0 where
+  pub few : length bytes ≤ most
+  pub body : IsBody bytes
 
 -- any kind
 abbrev pub IsKind : Kind → Type 0

@@ -2,11 +2,11 @@
 use Rattle.std.specs.Prelude.{◌≡◌, ℕ, ◌-◌, ◌<◌, ◌≤◌, List, ◌++◌, length, slice_index, All}
 use Rattle.std.specs.List.{flat_map}
 use Rattle.byteorder.specs.Endian.{big_bytes}
-use Rattle.cz_base.specs.declared.limits.TheConstants.{COMMANDS, MESSAGE_RECORDS, NUMBERS_END, SESSIONS, TAGS}
+use Rattle.cz_base.specs.declared.limits.TheConstants.{BODY_BYTES, COMMANDS, MESSAGE_RECORDS, NUMBERS_END, SESSIONS, TAGS}
 use Rattle.cz_base.specs.Text.{IsName, IsBody}
 use Rattle.causal_deps.specs.Counts.{IsSquare, entry_of}
 use Rattle.causal_deps.specs.declared.record.Kind.{Kind}
-use Rattle.causal_deps.specs.declared.record.Kind.TheVariants.{Append, Put}
+use Rattle.causal_deps.specs.declared.record.Kind.TheVariants.{Append, Put, Del}
 use Rattle.causal_deps.specs.declared.record.Record.{Record}
 use Rattle.record_codec.specs.declared.message.Message.{Message}
 
@@ -14,16 +14,25 @@ use Rattle.record_codec.specs.declared.message.Message.{Message}
 abbrev pub kind_number : Kind → ℕ
 kind_number Append = 1
 kind_number Put = 2
+kind_number Del = 3
 
 -- the fewest tags that a record of a kind has
 abbrev pub fewest_tags : Kind → ℕ
 fewest_tags Append = 0
 fewest_tags Put = 1
+fewest_tags Del = 1
 
 -- the most tags that a record of a kind has
 abbrev pub most_tags : Kind → ℕ
 most_tags Append = TAGS
 most_tags Put = 1
+most_tags Del = 1
+
+-- the most bytes that the body of a record of a kind has
+abbrev pub most_body : Kind → ℕ
+most_body Append = BODY_BYTES
+most_body Put = BODY_BYTES
+most_body Del = 0
 
 -- each count in eight bytes
 abbrev pub counts_bytes : List ℕ → List ℕ
@@ -77,6 +86,7 @@ pub record FitsRecord (dcs : ℕ) (r : Record) : Type 0 where
   pub own : slice_index r.dep r.host ≡ r.toid - 1
   pub tags_first : fewest_tags r.kind ≤ length r.tags
   pub tags : length r.tags ≤ most_tags r.kind
+  pub body : length r.body ≤ most_body r.kind
 
 -- the numbers of the message and of its records are in their ranges
 pub record FitsMessage (dcs : ℕ) (m : Message) : Type 0 where

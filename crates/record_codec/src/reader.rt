@@ -4,8 +4,8 @@ ghost use Rattle.std.specs.Prelude.{◌≡◌, ◌≢◌, ◌+◌, ◌++◌, ◌
 ghost use Rattle.std.specs.List.{flat_map};
 ghost use Rattle.byteorder.specs.Endian.{big_bytes};
 ghost use Rattle.cz_base.specs.declared.limits.TheConstants.{BODY_BYTES, DATACENTRES, NAME_BYTES, NUMBERS_END};
-ghost use Rattle.cz_base.specs.Text.{IsName, IsBody, is_name_byte, is_body_byte};
-ghost use Rattle.record_codec.specs.Fields.{AreEntries, AreNames, AreRows, FitsOwn, greatest_entry, least_entry};
+ghost use Rattle.cz_base.specs.Text.{IsName, is_name_byte, is_body_byte};
+ghost use Rattle.record_codec.specs.Fields.{AreEntries, AreNames, AreRows, FitsOwn, IsShortBody, greatest_entry, least_entry};
 ghost use Rattle.record_codec.specs.Parts.{as_it_is, IsSized, IsText, IsWithin, IsWord, Misses};
 ghost use Rattle.record_codec.specs.Reading.{BeginsNumber, Fails, Place, Took};
 ghost use Rattle.record_codec.specs.Wire.{body_bytes, counts_bytes, name_bytes, names_bytes, table_bytes};
@@ -146,13 +146,14 @@ impl<'a> Reader<'a> {
         }
     }
 
-    /// Reads a body behind its length.
-    pub fn body(&mut self) -> Result<Body, DecodeFault>
-        ensures ok { IfOk result (λ body. IsBody body) }
+    /// Reads a body of at most so many bytes behind its length.
+    pub fn body(&mut self, most: u32) -> Result<Body, DecodeFault>
+        requires { most ≤ BODY_BYTES }
+        ensures ok { IfOk result (λ body. IsShortBody most body) }
         ensures took { IfOk result (λ body. Took self.old self.new (body_bytes body)) }
-        ensures fault { IfErr result (Fails (IsWord IsBody body_bytes) self.old) }
+        ensures fault { IfErr result (Fails (IsWord (IsShortBody most) body_bytes) self.old) }
     {
-        let len = self.small(2, 0, BODY_BYTES as u32)?;
+        let len = self.small(2, 0, most)?;
         self.body_of(len as usize)
     }
 

@@ -1,20 +1,20 @@
 //! Records: a head, dependencies, tags and a body.
 
 ghost use Rattle.std.specs.Prelude.{◌≡◌, ◌++◌, ◌<◌, ◌≤◌, length, IfOk, IfErr, MatchResult, OnOk};
-ghost use Rattle.cz_base.specs.declared.limits.TheConstants.{DATACENTRES};
+ghost use Rattle.cz_base.specs.declared.limits.TheConstants.{BODY_BYTES, DATACENTRES};
 ghost use Rattle.record_codec.specs.declared.fault.DecodeFault.TheVariants.{NoMemory as OutOfMemory};
 ghost use Rattle.causal_deps.specs.declared.record.Record.{Record as RecordValue};
 ghost use Rattle.record_codec.specs.Fields.{head_word, IsHead, IsKind, IsRecord, kind_bytes};
 ghost use Rattle.record_codec.specs.Parts.{IsWord};
 ghost use Rattle.record_codec.specs.Reading.{Fails, Took};
 ghost use Rattle.record_codec.specs.Starts.{IsRefused};
-ghost use Rattle.record_codec.specs.Wire.{fewest_tags, head_bytes, kind_number, most_tags, record_bytes, FitsRecord, HasTexts, IsRecordText, SpellsRecord};
+ghost use Rattle.record_codec.specs.Wire.{fewest_tags, head_bytes, kind_number, most_body, most_tags, record_bytes, FitsRecord, HasTexts, IsRecordText, SpellsRecord};
 
 use crate::DecodeFault;
 use crate::reader::{Own, Reader};
 use crate::writer::Writer;
 use causal_deps::{Kind, Record};
-use cz_base::limits::{COMMANDS, NUMBERS_END, SESSIONS, TAGS};
+use cz_base::limits::{BODY_BYTES, COMMANDS, NUMBERS_END, SESSIONS, TAGS};
 use cz_base::{DcId, NoMemory, Toid};
 use std::alloc::Global;
 
@@ -101,6 +101,7 @@ fn kind_byte(kind: Kind) -> u64
     match kind {
         Kind::Append => 1,
         Kind::Put => 2,
+        Kind::Del => 3,
     }
 }
 
@@ -131,7 +132,7 @@ pub fn read_record(
     };
     let dep = reader.counts(dcs, Some(own))?;
     let tags = reader.names(fewest(kind), most(kind))?;
-    let body = reader.body()?;
+    let body = reader.body(longest(kind))?;
     Ok(Record {
         host,
         toid,
@@ -171,11 +172,11 @@ fn read_kind(reader: &mut Reader<'_>) -> Result<Kind, DecodeFault>
     ensures took { IfOk result (λ kind. Took reader.old reader.new (kind_bytes kind)) }
     ensures fault { IfErr result (Fails (IsWord IsKind kind_bytes) reader.old) }
 {
-    let number = reader.small(1, 1, 2)?;
-    if number == 1 {
-        Ok(Kind::Append)
-    } else {
-        Ok(Kind::Put)
+    let number = reader.small(1, 1, 3)?;
+    match number {
+        1 => Ok(Kind::Append),
+        2 => Ok(Kind::Put),
+        _ => Ok(Kind::Del),
     }
 }
 
@@ -186,6 +187,7 @@ fn fewest(kind: Kind) -> u32
     match kind {
         Kind::Append => 0,
         Kind::Put => 1,
+        Kind::Del => 1,
     }
 }
 
@@ -196,5 +198,18 @@ fn most(kind: Kind) -> u32
     match kind {
         Kind::Append => TAGS as u32,
         Kind::Put => 1,
+        Kind::Del => 1,
+    }
+}
+
+// The most bytes that the body of a record of the kind has.
+fn longest(kind: Kind) -> u32
+    ensures value { result ≡ most_body kind }
+    ensures few { result ≤ BODY_BYTES }
+{
+    match kind {
+        Kind::Append => BODY_BYTES as u32,
+        Kind::Put => BODY_BYTES as u32,
+        Kind::Del => 0,
     }
 }

@@ -4,7 +4,7 @@ use Rattle.std.specs.List.{flat_map}
 use Rattle.std.specs.Fmt.{decimal}
 use Rattle.causal_deps.specs.declared.record.Record.{Record}
 use Rattle.abstract_log.specs.declared.command.Command.{Command}
-use Rattle.abstract_log.specs.declared.command.Command.TheVariants.{Append as AppendCommand, Put as PutCommand, Get, Tx, Read as ReadCommand, Last as LastCommand}
+use Rattle.abstract_log.specs.declared.command.Command.TheVariants.{Append as AppendCommand, Put as PutCommand, Del as DelCommand, Get, Tx, Read as ReadCommand, Last as LastCommand}
 use Rattle.abstract_log.specs.declared.command.SessionPlan.{SessionPlan}
 use Rattle.abstract_log.specs.declared.command.Workload.{Workload}
 use Rattle.abstract_log.specs.declared.event.Event.{Event}
@@ -13,7 +13,7 @@ use Rattle.abstract_log.specs.declared.event.Run.{Run}
 use Rattle.abstract_log.specs.declared.answer.Answer.{Answer}
 use Rattle.abstract_log.specs.declared.answer.Answer.TheVariants.{Written, Items, Read, Last}
 use Rattle.abstract_log.specs.declared.answer.Found.{Found}
-use Rattle.abstract_log.specs.declared.answer.Found.TheVariants.{Absent, At}
+use Rattle.abstract_log.specs.declared.answer.Found.TheVariants.{Absent, At, Deleted}
 use Rattle.abstract_log.specs.declared.answer.ReadAnswer.{ReadAnswer}
 use Rattle.abstract_log.specs.declared.answer.ReadAnswer.TheVariants.{Beyond, Gone, Shown}
 use Rattle.abstract_log.specs.declared.script.StageLine.{StageLine}
@@ -32,6 +32,7 @@ use Rattle.report_text.specs.Turns.{stage_lines}
 abbrev pub command_words : Command → List (List ℕ)
 command_words (AppendCommand tags body) = codes "append" ∷ body_word body ∷ tags
 command_words (PutCommand key body) = codes "put" ∷ key ∷ body_word body ∷ []
+command_words (DelCommand key) = codes "del" ∷ key ∷ []
 command_words (Get key) = codes "get" ∷ key ∷ []
 command_words (Tx keys) = codes "tx" ∷ keys
 command_words (ReadCommand lid) = codes "read" ∷ decimal lid ∷ []
@@ -57,6 +58,7 @@ shown_words body tags = body_word body ∷ tags
 abbrev pub found_words : Found → List (List ℕ)
 found_words Absent = codes "absent" ∷ []
 found_words (At place body) = codes "found" ∷ (place_words place ++ body_word body ∷ [])
+found_words (Deleted place) = codes "deleted" ∷ place_words place
 
 abbrev pub read_words : ReadAnswer → List (List ℕ)
 read_words Beyond = codes "beyond" ∷ []

@@ -3,7 +3,7 @@ use Rattle.std.specs.Prelude.{ℕ, ◌+◌, List, [], ◌∷◌, ◌++◌, codes
 use Rattle.std.specs.List.{join_by, flat_map}
 use Rattle.std.specs.Fmt.{decimal}
 use Rattle.causal_deps.specs.declared.record.Kind.{Kind}
-use Rattle.causal_deps.specs.declared.record.Kind.TheVariants.{Append, Put}
+use Rattle.causal_deps.specs.declared.record.Kind.TheVariants.{Append, Put, Del}
 use Rattle.causal_deps.specs.declared.record.Place.{Place}
 
 -- a datacentre's letter: `A` is the first
@@ -32,6 +32,7 @@ body_word body = codes "=" ++ body
 abbrev pub kind_word : Kind → List ℕ
 kind_word Append = codes "append"
 kind_word Put = codes "put"
+kind_word Del = codes "del"
 
 abbrev pub number_words : ℕ → List (List ℕ)
 number_words n = decimal n ∷ []

@@ -69,6 +69,10 @@ fn put_command(text: &mut Text, command: &Command) -> Result<(), NoMemory>
             text.word(key.as_bytes())?;
             put_body(text, body)
         }
+        Command::Del { key } => {
+            text.put(b"del")?;
+            text.word(key.as_bytes())
+        }
         Command::Get { key } => {
             text.put(b"get")?;
             text.word(key.as_bytes())
@@ -297,6 +301,10 @@ fn put_found(text: &mut Text, found: &Found) -> Result<(), NoMemory>
             text.word(b"found")?;
             put_place(text, place)?;
             put_body(text, body)
+        }
+        Found::Deleted { place } => {
+            text.word(b"deleted")?;
+            put_place(text, place)
         }
     }
 }

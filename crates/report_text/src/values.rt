@@ -106,6 +106,7 @@ pub fn kind_name(kind: Kind) -> &'static [u8]
     match kind {
         Kind::Append => b"append",
         Kind::Put => b"put",
+        Kind::Del => b"del",
     }
 }
 

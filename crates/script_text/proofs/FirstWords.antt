@@ -7,7 +7,7 @@ use Rattle.script_text.specs.declared.fault.Cause.{Cause}
 use Rattle.script_text.specs.declared.fault.Cause.TheVariants.{OutOfPlace, WrongWords}
 use Rattle.script_text.specs.declared.keyword.Keyword.{Keyword}
 use Rattle.script_text.specs.declared.keyword.Keyword.TheVariants.{Chariots, Datacentres, Round, Stages, Session, Command as CommandLine, Steps, Turn, End}
-use Rattle.script_text.specs.declared.keyword.CommandWord.TheVariants.{Append, Put, Get, Tx, Read, Last}
+use Rattle.script_text.specs.declared.keyword.CommandWord.TheVariants.{Append, Put, Del, Get, Tx, Read, Last}
 use Rattle.script_text.specs.declared.keyword.TurnWord.{TurnWord}
 use Rattle.script_text.specs.declared.progress.Progress.{Progress}
 use Rattle.script_text.specs.Keywords.{text_of, turn_text, keyword_of, stands, least_words, most_words, command_text}
@@ -59,6 +59,7 @@ pub command_word : (word : CommandWord) → keyword_of (command_text word) ≡ S
 unfolding keyword_of text_of
 command_word Append = refl
 command_word Put = refl
+command_word Del = refl
 command_word Get = refl
 command_word Tx = refl
 command_word Read = refl

@@ -19,7 +19,7 @@ use Rattle.script_text.specs.declared.fault.ScriptFault.{ScriptFault}
 use Rattle.script_text.specs.declared.keyword.Keyword.{Keyword}
 use Rattle.script_text.specs.declared.keyword.Keyword.TheVariants.{Chariots, Datacentres, Round, Stages, Session, Command as CommandLine, Steps, Turn, End}
 use Rattle.script_text.specs.declared.keyword.CommandWord.{CommandWord}
-use Rattle.script_text.specs.declared.keyword.CommandWord.TheVariants.{Append, Put, Get, Tx, Read, Last}
+use Rattle.script_text.specs.declared.keyword.CommandWord.TheVariants.{Append, Put, Del, Get, Tx, Read, Last}
 use Rattle.script_text.specs.declared.keyword.TurnWord.{TurnWord}
 use Rattle.script_text.specs.declared.section.Section.{Section}
 use Rattle.script_text.specs.declared.progress.Progress.{Progress}
@@ -27,7 +27,7 @@ use Rattle.script_text.specs.declared.progress.Stages.{Stages as StagesOf}
 use Rattle.script_text.specs.Words.{words, is_line_byte, is_empty_word}
 use Rattle.script_text.specs.Reading.{number_at, datacentre_at, body_at, name_at, names_in, greatest_number}
 use Rattle.script_text.specs.Keywords.{text_of, turn_text, keyword_of, stands, turn_arguments, least_words, most_words, is_ended}
-use Rattle.script_text.specs.Meaning.{start, chariots_line, datacentres_line, round_line, sizes_at, stages_line, session_line, onto_last, with_command, append_line, put_line, get_line, tx_line, read_line, last_line, turn_line, command_meaning, meaning, keyword_after, words_after, is_passed_over, line_after, is_given, script_said, told, next_number, script_from, script_of}
+use Rattle.script_text.specs.Meaning.{start, chariots_line, datacentres_line, round_line, sizes_at, stages_line, session_line, onto_last, with_command, append_line, put_line, del_line, get_line, tx_line, read_line, last_line, turn_line, command_meaning, meaning, keyword_after, words_after, is_passed_over, line_after, is_given, script_said, told, next_number, script_from, script_of}
 use Rattle.script_text.specs.Members.{FitsMembers}
 use Rattle.script_text.specs.Spelled.{letter, command_words, stages_words, first_words, datacentres_words, round_words, before_steps, turn_words, steps_words, end_words, said_words, Spells, IsWritten}
 use Rattle.abstract_log.specs.Turns.{FitsStep}
@@ -40,7 +40,7 @@ use Rattle.script_text.proofs.Going.{okay, okay-same, bind_ok, guard_ok, pass_ok
 use Rattle.script_text.proofs.SoFar.{keyword_text, so_far_at, laid_at, Lays, empty-before, stages-before, sessions-before, commands-before, either-before, IsLine}
 use Rattle.script_text.proofs.Sections.{at-start, at-datacentres, at-round, at-stages, at-sessions, at-either, at-steps, at-ended, rank-upto, rank-ended}
 use Rattle.script_text.proofs.Sound.{IsSound, start-sound, line-sound, said-fits, said-members}
-use Rattle.script_text.proofs.Spelling.{number_spells, datacentre_spells, body_spells, name_spells, names_spell, one_number}
+use Rattle.script_text.proofs.Spelling.{number_spells, datacentre_spells, body_spells, name_spells, names_spell, one_name, one_number}
 use Rattle.script_text.proofs.TurnLemmas.{and_step, turn_takes}
 
 chariots-lays : (said after : Progress) (left : List (List ℕ)) → said.section ≡ section.Start → laid_at said.section said → length left ≤ 1 → chariots_line said left ≡ Ok after
@@ -211,14 +211,17 @@ put-lays said after left here few same =
     = first ∙ ap (λ (ws : List (List ℕ)). key.0.0 ∷ ws) (second ∙ ap (λ (ws : List (List ℕ)). (61 ∷ body.0.0) ∷ ws) (nil_from_length body.0.1 none)) in
     command-lays said after (command.Put key.0.0 body.0.0) (codes "put" ∷ left) here (ap (λ (ws : List (List ℕ)). codes "put" ∷ ws) whole) body.1.1
 
+del-lays : (said after : Progress) (left : List (List ℕ)) → said.section ≡ section.Sessions → length left ≤ 1 → del_line said left ≡ Ok after → Lays said after (codes "del" ∷ left)
+unfolding del_line
+del-lays said after left here few same =
+    let key = bind_ok (name_at left) _ after same in
+    command-lays said after (command.Del key.0.0) (codes "del" ∷ left) here (ap (λ (ws : List (List ℕ)). codes "del" ∷ ws) (one_name left key.0 few key.1.0)) key.1.1
+
 get-lays : (said after : Progress) (left : List (List ℕ)) → said.section ≡ section.Sessions → length left ≤ 1 → get_line said left ≡ Ok after → Lays said after (codes "get" ∷ left)
 unfolding get_line
 get-lays said after left here few same =
     let key = bind_ok (name_at left) _ after same in
-    let first = name_spells left key.0 key.1.0 in
-    let none : length key.0.1 ≡ 0 = omega (arith, ap (λ (ws : List (List ℕ)). length ws) first, few) in
-    let whole : left ≡ key.0.0 ∷ [] = first ∙ ap (λ (ws : List (List ℕ)). key.0.0 ∷ ws) (nil_from_length key.0.1 none) in
-    command-lays said after (command.Get key.0.0) (codes "get" ∷ left) here (ap (λ (ws : List (List ℕ)). codes "get" ∷ ws) whole) key.1.1
+    command-lays said after (command.Get key.0.0) (codes "get" ∷ left) here (ap (λ (ws : List (List ℕ)). codes "get" ∷ ws) (one_name left key.0 few key.1.0)) key.1.1
 
 tx-lays : (said after : Progress) (left : List (List ℕ)) → said.section ≡ section.Sessions → tx_line said left ≡ Ok after → Lays said after (codes "tx" ∷ left)
 unfolding tx_line
@@ -249,6 +252,7 @@ command_line-lays : (said after : Progress) (word : CommandWord) (left : List (L
 unfolding text_of
 command_line-lays said after Append left here few same = append-lays said after left here same
 command_line-lays said after Put left here few same = put-lays said after left here few same
+command_line-lays said after Del left here few same = del-lays said after left here few same
 command_line-lays said after Get left here few same = get-lays said after left here few same
 command_line-lays said after Tx left here few same = tx-lays said after left here same
 command_line-lays said after Read left here few same = read-lays said after left here few same

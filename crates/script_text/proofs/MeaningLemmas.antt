@@ -3,7 +3,7 @@ use Rattle.std.proofs.Common.{◌≡◌, ◌<◌, ◌+◌, List, [], ◌∷◌, 
 use Rattle.std.specs.Prelude.{nat_le, Ok}
 use Rattle.std.proofs.lemmas.Bool.Decides.{nat_tests}
 use Rattle.abstract_log.specs.declared.command.Command.{Command}
-use Rattle.abstract_log.specs.declared.command.Command.TheVariants.{Append, Put, Get, Last}
+use Rattle.abstract_log.specs.declared.command.Command.TheVariants.{Append, Put, Del, Get, Last}
 use Rattle.abstract_log.specs.declared.command.SessionPlan.{SessionPlan}
 use Rattle.script_text.specs.declared.progress.Progress.{Progress}
 use Rattle.abstract_log.specs.declared.script.Step.{Step}
@@ -13,7 +13,7 @@ use Rattle.script_text.specs.declared.arguments.Arguments.{Arguments}
 use Rattle.script_text.specs.Keywords.{turn_arguments}
 use Rattle.script_text.specs.Reading.{number_at, body_at, name_at, names_in}
 use Rattle.script_text.specs.Arguments.{no_arguments, arguments_at, step_said}
-use Rattle.script_text.specs.Meaning.{onto_last, with_command, append_line, put_line, get_line, last_line, with_step, turn_line}
+use Rattle.script_text.specs.Meaning.{onto_last, with_command, append_line, put_line, del_line, get_line, last_line, with_step, turn_line}
 use Rattle.cz_base.specs.declared.limits.TheConstants.{COMMANDS, LAST_RECORDS}
 
 -- a command goes to the session that stands last
@@ -48,6 +48,10 @@ pub put_line-read : (said : Progress) (left : List (List ℕ)) (key body : List 
     → put_line said left ≡ with_command said (Put key body)
 unfolding put_line
 put_line-read said left key body more rest named spelled = rw (named, spelled) refl
+
+pub del_line-read : (said : Progress) (left : List (List ℕ)) (key : List ℕ) (more : List (List ℕ)) → name_at left ≡ Ok (key, more) → del_line said left ≡ with_command said (Del key)
+unfolding del_line
+del_line-read said left key more named = rw named refl
 
 pub get_line-read : (said : Progress) (left : List (List ℕ)) (key : List ℕ) (more : List (List ℕ)) → name_at left ≡ Ok (key, more) → get_line said left ≡ with_command said (Get key)
 unfolding get_line

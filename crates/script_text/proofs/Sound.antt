@@ -18,7 +18,7 @@ use Rattle.abstract_log.specs.Commands.{no_plan}
 use Rattle.script_text.specs.declared.keyword.Keyword.{Keyword}
 use Rattle.script_text.specs.declared.keyword.Keyword.TheVariants.{Chariots, Datacentres, Round, Stages, Session, Command as CommandLine, Steps, Turn, End}
 use Rattle.script_text.specs.declared.keyword.CommandWord.{CommandWord}
-use Rattle.script_text.specs.declared.keyword.CommandWord.TheVariants.{Append, Put, Get, Tx, Read, Last}
+use Rattle.script_text.specs.declared.keyword.CommandWord.TheVariants.{Append, Put, Del, Get, Tx, Read, Last}
 use Rattle.script_text.specs.declared.keyword.TurnWord.{TurnWord}
 use Rattle.script_text.specs.declared.section.Section.{Section}
 use Rattle.script_text.specs.declared.progress.Progress.{Progress}
@@ -29,7 +29,7 @@ use Rattle.script_text.specs.Keywords.{keyword_of, stands, turn_arguments, least
 use Rattle.script_text.specs.declared.members.Stage.{Stage as StageOf}
 use Rattle.script_text.specs.declared.members.Stage.TheVariants.{Batchers, Filters, Queues, Maintainers, Senders, Receivers}
 use Rattle.script_text.specs.Members.{additions, members, one_of_each, FitsMembers}
-use Rattle.script_text.specs.Meaning.{start, chariots_line, datacentres_line, round_line, sizes_at, stages_line, session_line, onto_last, with_command, append_line, put_line, get_line, tx_line, read_line, last_line, turn_line, command_meaning, meaning, keyword_after, words_after, is_passed_over, line_after, is_given, sizes_found, sizes_given, sizes_upto, script_said}
+use Rattle.script_text.specs.Meaning.{start, chariots_line, datacentres_line, round_line, sizes_at, stages_line, session_line, onto_last, with_command, append_line, put_line, del_line, get_line, tx_line, read_line, last_line, turn_line, command_meaning, meaning, keyword_after, words_after, is_passed_over, line_after, is_given, sizes_found, sizes_given, sizes_upto, script_said}
 use Rattle.abstract_log.specs.Fits.{IsSize, FitsSizes, FitsCommand, FitsPlan, commands_of, FitsScript}
 use Rattle.script_text.specs.Spelled.{FitsStages, AreGivenOnce}
 use Rattle.abstract_log.specs.Turns.{FitsStep}
@@ -321,6 +321,12 @@ put-sound said after left here sound same =
     let body = bind_ok (body_at key.0.1) _ after key.1.1 in
     command-sound said after (command.Put key.0.0 body.0.0) here (name_takes left key.0 key.1.0, (body_takes key.0.1 body.0 body.1.0).body) sound body.1.1
 
+del-sound : (said after : Progress) (left : List (List ℕ)) → rank said.section ≡ 4 → IsSound said → del_line said left ≡ Ok after → IsSound after
+unfolding del_line
+del-sound said after left here sound same =
+    let key = bind_ok (name_at left) _ after same in
+    command-sound said after (command.Del key.0.0) here (name_takes left key.0 key.1.0) sound key.1.1
+
 get-sound : (said after : Progress) (left : List (List ℕ)) → rank said.section ≡ 4 → IsSound said → get_line said left ≡ Ok after → IsSound after
 unfolding get_line
 get-sound said after left here sound same =
@@ -353,6 +359,7 @@ last-sound said after left here sound same =
 command_line-sound : (said after : Progress) (word : CommandWord) (left : List (List ℕ)) → rank said.section ≡ 4 → least_words (CommandLine word) ≤ length left → length left ≤ most_words (CommandLine word) → IsSound said → command_meaning said word left ≡ Ok after → IsSound after
 command_line-sound said after Append left here some few sound same = append-sound said after left here few sound same
 command_line-sound said after Put left here some few sound same = put-sound said after left here sound same
+command_line-sound said after Del left here some few sound same = del-sound said after left here sound same
 command_line-sound said after Get left here some few sound same = get-sound said after left here sound same
 command_line-sound said after Tx left here some few sound same = tx-sound said after left here some few sound same
 command_line-sound said after Read left here some few sound same = read-sound said after left here sound same

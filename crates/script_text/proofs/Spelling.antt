@@ -136,6 +136,13 @@ name_spells (word ∷ more) x same =
     let pair : (bound.0, more) ≡ x = okay-same (bound.0, more) x bound.1.1 in
     subst (λ (p : List ℕ × List (List ℕ)). word ∷ more ≡ p.0 ∷ p.1) pair (ap (λ (w : List ℕ). w ∷ more) value)
 
+-- a line of one name behind its first word
+pub one_name : (left : List (List ℕ)) (x : List ℕ × List (List ℕ)) → length left ≤ 1 → name_at left ≡ Ok x → left ≡ x.0 ∷ []
+one_name left x few same =
+    let word : left ≡ x.0 ∷ x.1 = name_spells left x same in
+    let none : length x.1 ≡ 0 = omega (arith, ap (λ (ws : List (List ℕ)). length ws) word) in
+    word ∙ ap (λ (ws : List (List ℕ)). x.0 ∷ ws) (nil_from_length x.1 none)
+
 pub names_spell : (left tags : List (List ℕ)) → names_in left ≡ Ok tags → left ≡ tags
 unfolding names_in
 names_spell left tags same =

@@ -12,14 +12,14 @@ use Rattle.abstract_log.specs.declared.command.SessionPlan.{SessionPlan}
 use Rattle.abstract_log.specs.declared.script.Sizes.{Sizes}
 use Rattle.script_text.specs.declared.fault.Cause.TheVariants.{GivenTwice, TooMany}
 use Rattle.script_text.specs.declared.keyword.Keyword.TheVariants.{Chariots, Datacentres, Round, Stages, Session, Command as CommandLine}
-use Rattle.script_text.specs.declared.keyword.CommandWord.TheVariants.{Append, Put, Get, Tx, Read, Last}
+use Rattle.script_text.specs.declared.keyword.CommandWord.TheVariants.{Append, Put, Del, Get, Tx, Read, Last}
 use Rattle.script_text.specs.declared.section.Section.{Section}
 use Rattle.script_text.specs.declared.progress.Progress.{Progress}
 use Rattle.script_text.specs.declared.progress.Stages.{Stages as StagesOf}
 use Rattle.script_text.specs.Words.{is_empty_word}
 use Rattle.script_text.specs.Reading.{number_at, greatest_number}
 use Rattle.script_text.specs.Keywords.{is_stages, is_sessions, is_ended}
-use Rattle.script_text.specs.Meaning.{start, chariots_line, datacentres_line, round_line, sizes_at, stages_line, session_line, with_command, append_line, put_line, get_line, tx_line, read_line, last_line, words_after, is_given}
+use Rattle.script_text.specs.Meaning.{start, chariots_line, datacentres_line, round_line, sizes_at, stages_line, session_line, with_command, append_line, put_line, del_line, get_line, tx_line, read_line, last_line, words_after, is_given}
 use Rattle.abstract_log.specs.Fits.{IsSize, FitsSizes, FitsCommand}
 use Rattle.script_text.specs.Spelled.{letter, command_words, stages_words, first_words, datacentres_words, round_words, FitsStages}
 use Rattle.std.proofs.lemmas.Bool.{or_from, cond-false}
@@ -152,6 +152,10 @@ put_means : (said : Progress) (key body : List ℕ) → IsName key → IsBody bo
 unfolding put_line
 put_means said key body named fits = rw (name_reads key ((61 ∷ body) ∷ []) named, body_reads body [] fits) refl
 
+del_means : (said : Progress) (key : List ℕ) → IsName key → del_line said (key ∷ []) ≡ with_command said (command.Del key)
+unfolding del_line
+del_means said key named = rw (name_reads key [] named) refl
+
 get_means : (said : Progress) (key : List ℕ) → IsName key → get_line said (key ∷ []) ≡ with_command said (command.Get key)
 unfolding get_line
 get_means said key named = rw (name_reads key [] named) refl
@@ -182,6 +186,11 @@ command_says said (command.Put key body) here fits = record {
   full = full (codes "put") (key ∷ (61 ∷ body) ∷ []) (omega arith) (full key ((61 ∷ body) ∷ []) (omega (arith, fits.0.not_empty)) (full (61 ∷ body) [] (omega arith) refl));
   means = word_reads said (codes "put") (key ∷ (61 ∷ body) ∷ []) (CommandLine Put) (command_word Put) (ap (λ (s : Section). is_sessions s) here) refl
       ∙ put_means said key body fits.0 fits.1;
+}
+command_says said (command.Del key) here fits = record {
+  full = full (codes "del") (key ∷ []) (omega arith) (full key [] (omega (arith, fits.not_empty)) refl);
+  means = word_reads said (codes "del") (key ∷ []) (CommandLine Del) (command_word Del) (ap (λ (s : Section). is_sessions s) here) refl
+      ∙ del_means said key fits;
 }
 command_says said (command.Get key) here fits = record {
   full = full (codes "get") (key ∷ []) (omega arith) (full key [] (omega (arith, fits.not_empty)) refl);

@@ -7,7 +7,7 @@ use Rattle.script_text.specs.declared.section.Section.TheVariants as section
 use Rattle.script_text.specs.declared.keyword.Keyword.{Keyword}
 use Rattle.script_text.specs.declared.keyword.Keyword.TheVariants.{Chariots, Datacentres, Round, Stages, Session, Command, Steps, Turn, End}
 use Rattle.script_text.specs.declared.keyword.CommandWord.{CommandWord}
-use Rattle.script_text.specs.declared.keyword.CommandWord.TheVariants.{Append, Put, Get, Tx, Read, Last}
+use Rattle.script_text.specs.declared.keyword.CommandWord.TheVariants.{Append, Put, Del, Get, Tx, Read, Last}
 use Rattle.script_text.specs.declared.keyword.TurnWord.{TurnWord}
 use Rattle.script_text.specs.declared.keyword.TurnWord.TheVariants.{Client, Flush, Pass, Stamp, Token, Place, Gossip, Post, Learn, Send, Deliver, Lose, Copy, Floor, Collect, Announce, Mark, AddMaintainer, AddBatcher, AddQueue, AddSender, AddReceiver}
 use Rattle.script_text.specs.declared.arguments.Argument.{Argument}
@@ -17,6 +17,7 @@ use Rattle.script_text.specs.declared.arguments.Argument.TheVariants as argument
 abbrev pub command_text : CommandWord → List ℕ
 command_text Append = codes "append"
 command_text Put = codes "put"
+command_text Del = codes "del"
 command_text Get = codes "get"
 command_text Tx = codes "tx"
 command_text Read = codes "read"
@@ -62,7 +63,7 @@ text_of End = codes "end"
 -- all keywords
 abbrev pub keywords : List Keyword
 keywords = Chariots ∷ Datacentres ∷ Round ∷ Stages ∷ Session
-    ∷ Command Append ∷ Command Put ∷ Command Get ∷ Command Tx ∷ Command Read ∷ Command Last ∷ Steps
+    ∷ Command Append ∷ Command Put ∷ Command Del ∷ Command Get ∷ Command Tx ∷ Command Read ∷ Command Last ∷ Steps
     ∷ Turn Client ∷ Turn Flush ∷ Turn Pass ∷ Turn Stamp ∷ Turn Token ∷ Turn Place ∷ Turn Gossip ∷ Turn Post ∷ Turn Learn ∷ Turn Send ∷ Turn Deliver
     ∷ Turn Lose ∷ Turn Copy ∷ Turn Floor ∷ Turn Collect ∷ Turn Announce ∷ Turn Mark ∷ Turn AddMaintainer ∷ Turn AddBatcher ∷ Turn AddQueue ∷ Turn AddSender ∷ Turn AddReceiver ∷ End ∷ []
 
@@ -140,6 +141,7 @@ turn_arguments AddReceiver = argument.Datacentre ∷ []
 abbrev pub least_command_words : CommandWord → ℕ
 least_command_words Append = 1
 least_command_words Put = 2
+least_command_words Del = 1
 least_command_words Get = 1
 least_command_words Tx = 1
 least_command_words Read = 1
@@ -148,6 +150,7 @@ least_command_words Last = 2
 abbrev pub most_command_words : CommandWord → ℕ
 most_command_words Append = TAGS + 1
 most_command_words Put = 2
+most_command_words Del = 1
 most_command_words Get = 1
 most_command_words Tx = KEYS
 most_command_words Read = 1

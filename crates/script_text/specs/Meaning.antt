@@ -15,7 +15,7 @@ use Rattle.script_text.specs.declared.fault.ScriptFault.TheVariants.{Bad}
 use Rattle.script_text.specs.declared.keyword.Keyword.{Keyword}
 use Rattle.script_text.specs.declared.keyword.Keyword.TheVariants.{Chariots, Datacentres, Round, Stages, Session, Command, Steps, Turn, End}
 use Rattle.script_text.specs.declared.keyword.CommandWord.{CommandWord}
-use Rattle.script_text.specs.declared.keyword.CommandWord.TheVariants.{Append, Put, Get, Tx, Read, Last}
+use Rattle.script_text.specs.declared.keyword.CommandWord.TheVariants.{Append, Put, Del, Get, Tx, Read, Last}
 use Rattle.script_text.specs.declared.keyword.TurnWord.{TurnWord}
 use Rattle.script_text.specs.declared.section.Section.TheVariants as section
 use Rattle.script_text.specs.declared.progress.Progress.{Progress}
@@ -97,6 +97,11 @@ put_line said rest = do
   body ← body_at key.1
   with_command said (command.Put key.0 body.0)
 
+unfoldable pub del_line : Progress → List (List ℕ) → Result Progress Cause
+del_line said rest = do
+  key ← name_at rest
+  with_command said (command.Del key.0)
+
 unfoldable pub get_line : Progress → List (List ℕ) → Result Progress Cause
 get_line said rest = do
   key ← name_at rest
@@ -122,6 +127,7 @@ last_line said rest = do
 abbrev pub command_meaning : Progress → CommandWord → List (List ℕ) → Result Progress Cause
 command_meaning said Append rest = append_line said rest
 command_meaning said Put rest = put_line said rest
+command_meaning said Del rest = del_line said rest
 command_meaning said Get rest = get_line said rest
 command_meaning said Tx rest = tx_line said rest
 command_meaning said Read rest = read_line said rest

@@ -3,7 +3,7 @@ use Rattle.std.specs.Prelude.{◌≡◌, ℕ, ◌+◌, ◌<◌, false, true, Lis
 use Rattle.std.specs.List.{flat_map, list_all}
 use Rattle.std.specs.Fmt.{decimal}
 use Rattle.abstract_log.specs.declared.command.Command.{Command}
-use Rattle.abstract_log.specs.declared.command.Command.TheVariants.{Append, Put, Get, Tx, Read, Last}
+use Rattle.abstract_log.specs.declared.command.Command.TheVariants.{Append, Put, Del, Get, Tx, Read, Last}
 use Rattle.abstract_log.specs.declared.command.SessionPlan.{SessionPlan}
 use Rattle.abstract_log.specs.declared.script.Script.{Script}
 use Rattle.abstract_log.specs.declared.script.Step.{Step}
@@ -24,6 +24,7 @@ letter dc = (65 + dc) ∷ []
 abbrev pub command_words : Command → List (List ℕ)
 command_words (Append tags body) = codes "append" ∷ (61 ∷ body) ∷ tags
 command_words (Put key body) = codes "put" ∷ key ∷ (61 ∷ body) ∷ []
+command_words (Del key) = codes "del" ∷ key ∷ []
 command_words (Get key) = codes "get" ∷ key ∷ []
 command_words (Tx keys) = codes "tx" ∷ keys
 command_words (Read lid) = codes "read" ∷ decimal lid ∷ []

@@ -38,6 +38,8 @@ pub enum CommandWord {
     Append,
     /// A key gets a value.
     Put,
+    /// A key is deleted.
+    Del,
     /// The value of a key is read.
     Get,
     /// The values of several keys are read at one point of the log.
@@ -98,7 +100,7 @@ pub enum TurnWord {
 }
 
 // The words that begin lines.
-const KEYWORDS: [Keyword; 35] = [
+const KEYWORDS: [Keyword; 36] = [
     Keyword::Chariots,
     Keyword::Datacentres,
     Keyword::Round,
@@ -106,6 +108,7 @@ const KEYWORDS: [Keyword; 35] = [
     Keyword::Session,
     Keyword::Command(CommandWord::Append),
     Keyword::Command(CommandWord::Put),
+    Keyword::Command(CommandWord::Del),
     Keyword::Command(CommandWord::Get),
     Keyword::Command(CommandWord::Tx),
     Keyword::Command(CommandWord::Read),
@@ -222,6 +225,7 @@ impl CommandWord {
         match self {
             CommandWord::Append => b"append",
             CommandWord::Put => b"put",
+            CommandWord::Del => b"del",
             CommandWord::Get => b"get",
             CommandWord::Tx => b"tx",
             CommandWord::Read => b"read",
@@ -237,6 +241,7 @@ impl CommandWord {
         match self {
             CommandWord::Append => (1, TAGS + 1),
             CommandWord::Put => (2, 2),
+            CommandWord::Del => (1, 1),
             CommandWord::Get => (1, 1),
             CommandWord::Tx => (1, KEYS),
             CommandWord::Read => (1, 1),

@@ -4,7 +4,7 @@ ghost use Rattle.std.specs.Prelude.{◌≡◌, ◌==◌, IfOk};
 ghost use Rattle.std.specs.List.{list_any, find};
 ghost use Rattle.script_text.specs.Words.{words, is_line_byte, is_empty_word};
 ghost use Rattle.script_text.specs.Reading.{Gives, Reads};
-ghost use Rattle.script_text.specs.Meaning.{start, chariots_line, datacentres_line, round_line, sizes_at, stages_line, session_line, append_line, put_line, get_line, tx_line, read_line, last_line, with_command, command_meaning, with_step, turn_line, meaning, words_after, line_after, is_full, is_given, is_passed_over, sizes_given, script_said};
+ghost use Rattle.script_text.specs.Meaning.{start, chariots_line, datacentres_line, round_line, sizes_at, stages_line, session_line, append_line, put_line, del_line, get_line, tx_line, read_line, last_line, with_command, command_meaning, with_step, turn_line, meaning, words_after, line_after, is_full, is_given, is_passed_over, sizes_given, script_said};
 
 use crate::arguments::{read_arguments, step_said};
 use crate::fault::{Cause, ReadFault};
@@ -154,6 +154,16 @@ impl Progress {
         self.put_command(Command::Put { key, body })
     }
 
+    // A command that deletes a key.
+    #[tactic(auto, unfolding(crate::specs::Meaning::del_line))]
+    fn del(&mut self, words: &mut Words<'_>) -> Result<(), ReadFault>
+        ensures { Gives (λ _. self.new) result (del_line self.old words.old) }
+    {
+        let alloc = self.sessions.alloc();
+        let key = words.name(alloc)?;
+        self.put_command(Command::Del { key })
+    }
+
     // A command that reads a key.
     #[tactic(auto, unfolding(crate::specs::Meaning::get_line))]
     fn get(&mut self, words: &mut Words<'_>) -> Result<(), ReadFault>
@@ -271,6 +281,7 @@ impl Progress {
         match word {
             CommandWord::Append => self.append(words),
             CommandWord::Put => self.put(words),
+            CommandWord::Del => self.del(words),
             CommandWord::Get => self.get(words),
             CommandWord::Tx => self.tx(words),
             CommandWord::Read => self.read(words),

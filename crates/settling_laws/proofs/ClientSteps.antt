@@ -6,7 +6,7 @@ use Rattle.std.proofs.lemmas.Bool.{cond_both, ltb-true}
 use Rattle.causal_deps.specs.declared.record.Draft.{Draft}
 use Rattle.causal_deps.specs.declared.record.Item.TheVariants.{Local}
 use Rattle.abstract_log.specs.declared.command.Command.{Command}
-use Rattle.abstract_log.specs.declared.command.Command.TheVariants.{Append, Put, Get, Tx, Read as ReadCommand, Last as LastCommand}
+use Rattle.abstract_log.specs.declared.command.Command.TheVariants.{Append, Put, Del, Get, Tx, Read as ReadCommand, Last as LastCommand}
 use Rattle.abstract_log.specs.declared.answer.Answer.{Answer}
 use Rattle.abstract_log.specs.declared.answer.Answer.TheVariants.{Items, Read, Last}
 use Rattle.abstract_log.specs.declared.answer.Found.{Found}
@@ -147,6 +147,7 @@ pub open_step : (d : ℕ) (z : Datacentre) (x : Session) (top : ℕ) (c : Comman
     → ((keys : List (List ℕ)) → c ≡ Tx keys → 1 ≤ length keys) → IsStepOf z x (IsClear z top x) (open_turn d z x top c).after
 open_step d z x top (Append tags body) next opened few fewer some = still_step z x (IsClear z top x) (λ _. inl (record { begun = opened; command = Append tags body; is = next; writes = refl; fresh = omega (arith, few) }))
 open_step d z x top (Put key body) next opened few fewer some = still_step z x (IsClear z top x) (λ _. inl (record { begun = opened; command = Put key body; is = next; writes = refl; fresh = omega (arith, few) }))
+open_step d z x top (Del key) next opened few fewer some = still_step z x (IsClear z top x) (λ _. inl (record { begun = opened; command = Del key; is = next; writes = refl; fresh = omega (arith, few) }))
 open_step d z x top (ReadCommand p) next opened few fewer some = cond_both (ltb top x.standing.floor) (waiting_turn z x top) (reply_with d z x (Read (shown_at z p top)) top) (λ t. IsStepOf z x (IsClear z top x) t.after)
     (λ waits. still_step z x (IsClear z top x) (λ clear. absurd (omega (arith, clear.0, ltb-true top x.standing.floor waits))))
     (λ _. reply_step d z x (ReadCommand p) (IsClear z top x) next few (Read (shown_at z p top)) top)
@@ -165,6 +166,7 @@ begin_step d z x c next few fewer some = at (draft_of x.number (next_index x) x.
     writes_of : (k : ℕ) (past : List ℕ) (e : Command) (draft : Draft) → draft_of x.number k past e ≡ Some draft → is_write e ≡ true
     writes_of k past (Append tags body) draft is = refl
     writes_of k past (Put key body) draft is = refl
+    writes_of k past (Del key) draft is = refl
     writes_of k past (Get key) draft is = absurd (cc)
     writes_of k past (Tx keys) draft is = absurd (cc)
     writes_of k past (ReadCommand p) draft is = absurd (cc)

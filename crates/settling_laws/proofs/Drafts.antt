@@ -12,7 +12,7 @@ use Rattle.causal_deps.specs.declared.record.Item.TheVariants.{Local, External}
 use Rattle.causal_deps.specs.Counts.{AreCovered}
 use Rattle.causal_deps.specs.Logs.{count_of}
 use Rattle.abstract_log.specs.declared.command.Command.{Command}
-use Rattle.abstract_log.specs.declared.command.Command.TheVariants.{Append, Put, Get, Tx, Read, Last}
+use Rattle.abstract_log.specs.declared.command.Command.TheVariants.{Append, Put, Del, Get, Tx, Read, Last}
 use Rattle.abstract_log.specs.declared.command.Workload.{Workload}
 use Rattle.abstract_log.specs.declared.world.World.{World}
 use Rattle.abstract_log.specs.Commands.{draft_of, is_write}
@@ -39,6 +39,7 @@ no_drafts s (r ∷ rs) = omega (arith, sum_by-cons (λ (x : Record). is_draft_of
 draft_made : (s k : ℕ) (past : List ℕ) (c : Command) → is_write c ≡ true → (draft : Draft) × (draft_of s k past c ≡ Some draft)
 draft_made s k past (Append tags body) is = (record { session = s; index = k; kind = _; tags = _; body = _; dep = past }, refl)
 draft_made s k past (Put key body) is = (record { session = s; index = k; kind = _; tags = _; body = _; dep = past }, refl)
+draft_made s k past (Del key) is = (record { session = s; index = k; kind = _; tags = _; body = _; dep = past }, refl)
 draft_made s k past (Get key) is = absurd (cc)
 draft_made s k past (Tx keys) is = absurd (cc)
 draft_made s k past (Read lid) is = absurd (cc)

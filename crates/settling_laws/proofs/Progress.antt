@@ -4,7 +4,7 @@ use Rattle.std.proofs.lemmas.Bool.{true≢false}
 use Rattle.std.specs.List.{sum_by}
 use Rattle.std.proofs.lemmas.List.Sums.{sum_by-cons}
 use Rattle.abstract_log.specs.declared.command.Command.{Command}
-use Rattle.abstract_log.specs.declared.command.Command.TheVariants.{Append, Put, Get, Tx, Read, Last}
+use Rattle.abstract_log.specs.declared.command.Command.TheVariants.{Append, Put, Del, Get, Tx, Read, Last}
 use Rattle.abstract_log.specs.Commands.{is_write}
 use Rattle.stage_world.specs.Stages.{Session}
 use Rattle.stage_world.specs.StandsFor.{keys_of}
@@ -22,6 +22,7 @@ pub record HasOpenWrite (x : Session) : Type 0 where
 pub write_keys : (c : Command) → is_write c ≡ true → length (keys_of c) ≡ 0
 write_keys (Append tags body) is = refl
 write_keys (Put key body) is = refl
+write_keys (Del key) is = refl
 write_keys (Get key) is = absurd (cc)
 write_keys (Tx keys) is = absurd (cc)
 write_keys (Read lid) is = absurd (cc)

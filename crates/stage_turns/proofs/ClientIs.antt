@@ -7,7 +7,7 @@ use Rattle.std.proofs.lemmas.List.{get_or-map, length-map, set-get_or}
 use Rattle.std.proofs.lemmas.List.Elements.{All-head, All-tail}
 use Rattle.causal_deps.specs.declared.record.Draft.{Draft}
 use Rattle.abstract_log.specs.declared.command.Command.{Command}
-use Rattle.abstract_log.specs.declared.command.Command.TheVariants.{Append, Put, Get, Tx, Read as ReadCommand, Last}
+use Rattle.abstract_log.specs.declared.command.Command.TheVariants.{Append, Put, Del, Get, Tx, Read as ReadCommand, Last}
 use Rattle.abstract_log.specs.declared.event.Event.{Event}
 use Rattle.abstract_log.specs.declared.event.Event.TheVariants.{Submit}
 use Rattle.abstract_log.specs.declared.script.Outcome.{Outcome}
@@ -78,8 +78,10 @@ module _ (d : ℕ) (z : Datacentre) (i : ℕ) (x : Session) (rise : AllPairs (λ
   write_by b None opened writing = absurd (cc)
   write_by true (Some (Append tags body)) opened writing = same_quiet (Unacknowledged (next_index x)) opened
   write_by true (Some (Put key body)) opened writing = same_quiet (Unacknowledged (next_index x)) opened
+  write_by true (Some (Del key)) opened writing = same_quiet (Unacknowledged (next_index x)) opened
   write_by false (Some (Append tags body)) opened writing = same_begun _
   write_by false (Some (Put key body)) opened writing = same_begun _
+  write_by false (Some (Del key)) opened writing = same_begun _
   write_by b (Some (Get key)) opened writing = absurd (cc)
   write_by b (Some (Tx keys)) opened writing = absurd (cc)
   write_by b (Some (ReadCommand p)) opened writing = absurd (cc)

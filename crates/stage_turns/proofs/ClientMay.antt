@@ -10,11 +10,12 @@ use Rattle.std.proofs.lemmas.List.Sums.{sum_by-cons}
 use Rattle.std.proofs.lemmas.Option.{same_Some, slice_get-get_or}
 use Rattle.causal_deps.specs.declared.record.Record.{Record}
 use Rattle.causal_deps.specs.Logs.{record_at}
-use Rattle.abstract_log.specs.declared.answer.Found.TheVariants.{Absent as AbsentKey}
+use Rattle.causal_deps.specs.declared.answers.Newest.TheVariants.{Found as FoundPut}
 use Rattle.abstract_log.specs.declared.command.Command.{Command}
 use Rattle.abstract_log.specs.declared.world.World.{World}
 use Rattle.abstract_log.specs.Worlds.{log_of}
-use Rattle.abstract_log.specs.Answers.{found_at, found_place, found_record, is_put_of, newest, passes, place_at}
+use Rattle.abstract_log.specs.Answers.{found_at, newest}
+use Rattle.abstract_log.specs.Updates.{told_place}
 use Rattle.log_laws.specs.Lawful.{IsLawful}
 use Rattle.flstore_rounds.specs.Heads.{Pair, IsTruePair, blank, head}
 use Rattle.flstore_rounds.proofs.HeadLemmas.{head_filled}
@@ -31,7 +32,7 @@ use Rattle.stage_world.specs.StandsFor.{IsAsFar, IsIndexedAt, StandsAt, gone_tim
 use Rattle.stage_world.specs.MoreTurns.{home_of, record_kept}
 use Rattle.stage_world.proofs.FilledLemmas.{All-flat_map, filled_within, no_record, one_at_most, times_in-flat_map}
 use Rattle.stage_world.proofs.LogLemmas.{record_at_below}
-use Rattle.stage_world.proofs.LookUps.{looked_up_is}
+use Rattle.stage_world.proofs.LookUps.{put_kept}
 use Rattle.stage_turns.specs.Clients.{MayRead, MayWrite}
 use Rattle.stage_turns.specs.Shelves.{ShowsLog, gone_in, shelf_of}
 use Rattle.stage_turns.proofs.ShelfLemmas.{covered_is}
@@ -109,31 +110,6 @@ find_at o (suc k) (x ∷ xs) numbers within =
     ap (λ b. cond b (Some x) (find (λ (i : IndexerState). eqb i.number (suc k + o)) xs)) apart ∙ ap (λ n. find (λ (i : IndexerState). eqb i.number n) xs) along
     ∙ find_at (suc o) k xs (λ i inside. numbers (suc i) (omega (arith, inside)) ∙ omega arith) (omega (arith, within))
 
--- the newest value's record stands there
-newest_record : (log : List Record) (key : List ℕ) (s p : ℕ) → newest log key s ≡ Some p → (r : Record) × (record_at log p ≡ Some r)
-newest_record log key zero p is = absurd (cc)
-newest_record log key (suc s) p is = by_record (slice_get log s) refl (newest_record log key s p) is
-  where
-    by_test : (r : Record) (b : Bool) → slice_get log s ≡ Some r → (newest log key s ≡ Some p → (q : Record) × (record_at log p ≡ Some q)) → cond b (Some (suc s)) (newest log key s) ≡ Some p → (q : Record) × (record_at log p ≡ Some q)
-    by_test r true at before same = (r, subst (λ n. record_at log n ≡ Some r) (same_Some (suc s) p same) at)
-    by_test r false at before later = before later
-
-    by_record : (o : Option Record) → slice_get log s ≡ o → (newest log key s ≡ Some p → (q : Record) × (record_at log p ≡ Some q)) → cond (passes (is_put_of key) o) (Some (suc s)) (newest log key s) ≡ Some p → (q : Record) × (record_at log p ≡ Some q)
-    by_record None at before later = before later
-    by_record (Some r) at before later = by_test r (is_put_of key r) at before later
-
--- what is found is kept at its position
-kept_found : (ms : List (MaintainerState Record)) (p q : ℕ) (r : Record) → cond (eqb q 0) AbsentKey (found_record q (record_kept ms q)) ≡ found_record p (Some r) → IsSome (record_kept ms p)
-kept_found ms p q r = by_test (eqb q 0)
-  where
-    by_record : (o : Option Record) → record_kept ms q ≡ o → found_record q o ≡ found_record p (Some r) → IsSome (record_kept ms p)
-    by_record None is bad = absurd (cc)
-    by_record (Some u) is same = let at : place_at q u ≡ place_at p r = cc in subst (λ o. IsSome o) (sym (ap (record_kept ms) (sym (ap (λ pl. pl.lid) at)) ∙ is)) refl
-
-    by_test : (b : Bool) → cond b AbsentKey (found_record q (record_kept ms q)) ≡ found_record p (Some r) → IsSome (record_kept ms p)
-    by_test true bad = absurd (cc)
-    by_test false same = by_record (record_kept ms q) refl same
-
 module _ (w : World) (d : ℕ) (z : Datacentre) (lawful : IsLawful w) (h : StandsAt w d z) where
   abbrev log : List Record
   log = log_of w d
@@ -188,14 +164,12 @@ module _ (w : World) (d : ℕ) (z : Datacentre) (lawful : IsLawful w) (h : Stand
       let same : k + 0 ≡ k = omega arith in
       ap (λ o. unwrap_or o no_indexer) (ap (λ n. find (λ (i : IndexerState). eqb i.number n) z.indexers) (sym same) ∙ find_at 0 k z.indexers (λ i within. h.coverage.numbered i within ∙ omega arith) (mod-lt (sum key) some))
 
-  newest_kept : (v : Pair) (g : Floored) (key : List ℕ) (s p : ℕ) → g.floor ≡ z.floor → g.floor ≤ s → s ≤ covered_for (shelf_of v ms z.indexers g) key → newest log key s ≡ Some p → IsSome (record_kept ms p)
+  newest_kept : (v : Pair) (g : Floored) (key : List ℕ) (s p : ℕ) → g.floor ≡ z.floor → g.floor ≤ s → s ≤ covered_for (shelf_of v ms z.indexers g) key → told_place log (newest log key s) ≡ FoundPut p → IsSome (record_kept ms p)
   newest_kept v g key s p floor low covered is =
       let some : 1 ≤ length z.indexers = h.membership.members.ranges.indexers.0 in
       let reached : s ≤ head (home_of z key).pair = omega (arith, covered, covered_is v ms z.indexers g some key, ap (λ (i : IndexerState). head i.pair) (home_at key some)) in
       let within : s ≤ length log = omega (arith, reached, ap (λ (i : IndexerState). head i.pair) (home_at key some), home_within key some) in
-      let stands = newest_record log key s p is in
-      kept_found ms p (newest_row (home_of z key).rows key s) stands.0
-      (looked_up_is w d z key s h (omega (arith, low, floor)) within reached ∙ ap (found_place log) is ∙ ap (found_record p) stands.1)
+      put_kept w d z key s p h (omega (arith, low, floor)) within reached is
     where
       home_within : (key : List ℕ) → 1 ≤ length z.indexers → head (indexer_at z.indexers (home key (length z.indexers))).pair ≤ length log
       home_within key some = pair_within (indexer_at z.indexers (home key (length z.indexers))).pair

@@ -5,11 +5,11 @@ use Rattle.std.proofs.lemmas.Bool.{cases_lt, lt-ltb, le-ltb, false≢true}
 use Rattle.std.proofs.lemmas.List.{append-nil, length-append, set-get_or}
 use Rattle.std.proofs.lemmas.List.Elements.{All-get_or}
 use Rattle.causal_deps.specs.declared.record.Kind.{Kind}
-use Rattle.causal_deps.specs.declared.record.Kind.TheVariants.{Append, Put}
+use Rattle.causal_deps.specs.declared.record.Kind.TheVariants.{Append, Put, Del}
+use Rattle.causal_deps.specs.Kinds.{is_put, is_update}
 use Rattle.causal_deps.specs.declared.record.Place.{Place}
 use Rattle.causal_deps.specs.declared.record.Record.{Record}
 use Rattle.abstract_log.specs.declared.world.World.{World}
-use Rattle.abstract_log.specs.Answers.{is_put}
 use Rattle.abstract_log.specs.Worlds.{log_of}
 use Rattle.log_laws.specs.Lawful.{IsLawful}
 use Rattle.log_laws.specs.Records.{IsValid}
@@ -25,9 +25,10 @@ use Rattle.stage_turns.specs.Collecting.{MayCollect, lid_at}
 use Rattle.stage_turns.proofs.ChangeLemmas.{tells_other, tells_same}
 
 -- a put has one tag
-one_key : (kind : Kind) (tags : List (List ℕ)) → (kind ≡ Put → (name : List ℕ) × (tags ≡ name ∷ [])) → is_put kind ≡ true → length tags ≡ 1
+one_key : (kind : Kind) (tags : List (List ℕ)) → (is_update kind ≡ true → (name : List ℕ) × (tags ≡ name ∷ [])) → is_put kind ≡ true → length tags ≡ 1
 one_key Append tags key is = absurd (false≢true is)
 one_key Put tags key is = ap (λ ts. length ts) (key refl).1
+one_key Del tags key is = absurd (false≢true is)
 
 pub may_collect_at : (w : World) (d : ℕ) (z : Datacentre) (m : ℕ) → m < length z.maintainers → IsLawful w → StandsAt w d z → MayCollect (length z.table) z.indexers (maintainer_at z.maintainers m).entries
 may_collect_at w d z m within lawful h =

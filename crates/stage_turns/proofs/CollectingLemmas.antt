@@ -1,16 +1,17 @@
 -- What the collection floor rises to, which entries may go, and how they go.
-use Rattle.std.proofs.Common.{◌≡◌, ℕ, zero, suc, ◌<◌, ◌≤◌, max, Bool, true, false, cond, ltb, leb, eqb, not, ◌&&◌, ◌||◌, List, [], ◌∷◌, length, map, get_or, take, length-take, Option, Some, None, is_some, IsSome, refl, ap, ap₂, sym, ◌∙◌, subst, inl, inr, arith}
+use Rattle.std.proofs.Common.{◌≡◌, ℕ, zero, suc, ◌<◌, ◌≤◌, max, Bool, true, false, cond, ltb, leb, eqb, not, ◌&&◌, ◌||◌, List, [], ◌∷◌, length, map, get_or, take, length-take, Option, Some, None, slice_get, is_some, IsSome, refl, ap, ap₂, sym, ◌∙◌, subst, inl, inr, arith}
 use Rattle.std.specs.List.{All, AllPairs, find, fold, list_all}
-use Rattle.std.specs.Option.{unwrap_or}
+use Rattle.std.specs.Option.{option_and_then, unwrap_or}
 use Rattle.std.proofs.lemmas.Bool.{cases_lt, cases_eq, cond-true, cond-false, cond_both, le-leb, lt-leb, lt-ltb, le-ltb, leb-true, ne_eqb, eq-eqb, and_parts}
 use Rattle.std.proofs.lemmas.List.{get_or_default, get_or-map, get_or-take, length-map}
 use Rattle.std.proofs.lemmas.List.Elements.{All-nil, All-cons, All-head, All-tail, All-filter, Contains-get_or}
 use Rattle.std.proofs.lemmas.List.Kept.{AllPairs-filter}
 use Rattle.causal_deps.specs.declared.record.Kind.{Kind}
-use Rattle.causal_deps.specs.declared.record.Kind.TheVariants.{Append, Put}
+use Rattle.causal_deps.specs.declared.record.Kind.TheVariants.{Append, Put, Del}
+use Rattle.causal_deps.specs.Kinds.{is_put, is_update}
+use Rattle.causal_deps.specs.declared.answers.Newest.{Newest}
 use Rattle.causal_deps.specs.declared.record.Place.{Place}
 use Rattle.causal_deps.specs.declared.record.Record.{Record}
-use Rattle.abstract_log.specs.Answers.{is_put}
 use Rattle.awareness_table.specs.Awareness.{is_known_everywhere}
 use Rattle.flstore_rounds.specs.Heads.{head}
 use Rattle.log_gc.specs.Floors.{is_collectable, replaced, unless_put}
@@ -19,27 +20,27 @@ use Rattle.maintainer.specs.Maintainers.{AreRising, MaintainerState, collected, 
 use Rattle.maintainer.proofs.CountLemmas.{entry_counts, entry_shown}
 use Rattle.maintainer.proofs.StateLemmas.{collected_value}
 use Rattle.tag_indexer.specs.declared.post.Post.{Post}
-use Rattle.tag_indexer.specs.Indexers.{IndexerState, newest_found}
+use Rattle.tag_indexer.specs.Indexers.{IndexerState, newest_lid, newest_position}
 use Rattle.tag_indexer.specs.Rows.{home, is_row_of, is_tagged, newest_row}
 use Rattle.stage_world.specs.MoreTurns.{place_of_entry}
 use Rattle.stage_world.specs.Stages.{no_indexer}
 use Rattle.stage_turns.specs.Changing.{has_some}
-use Rattle.stage_turns.specs.Collecting.{AreHomes, IsKeyed, home_among, lid_at, lid_of_place, may_go, newest_for, newest_lid, newest_of, to_go}
+use Rattle.stage_turns.specs.Collecting.{AreHomes, IsKeyed, home_among, lid_at, lid_of_place, may_go, newest_for, newest_of, to_go}
 
 -- a newest row is at or below s
 newest_low : (rows : List Post) (key : List ℕ) (s : ℕ) → newest_row rows key s ≤ s
 newest_low rows key s = from rows 0 (omega arith)
   where
-    from : (xs : List Post) (best : ℕ) → best ≤ s → fold (λ b post. cond (post.put && is_row_of key s post) (max b post.place.lid) b) best xs ≤ s
+    from : (xs : List Post) (best : ℕ) → best ≤ s → fold (λ b post. cond (is_update post.kind && is_row_of key s post) (max b post.place.lid) b) best xs ≤ s
     from [] best low = low
-    from (x ∷ xs) best low = cond_both (x.put && is_row_of key s x) (max best x.place.lid) best (λ b. fold (λ c post. cond (post.put && is_row_of key s post) (max c post.place.lid) c) b xs ≤ s)
-        (λ is. let row : is_row_of key s x ≡ true = (and_parts x.put (is_row_of key s x) is).1 in
+    from (x ∷ xs) best low = cond_both (is_update x.kind && is_row_of key s x) (max best x.place.lid) best (λ b. fold (λ c post. cond (is_update post.kind && is_row_of key s post) (max c post.place.lid) c) b xs ≤ s)
+        (λ is. let row : is_row_of key s x ≡ true = (and_parts (is_update x.kind) (is_row_of key s x) is).1 in
         let here : x.place.lid ≤ s = leb-true x.place.lid s (and_parts (leb x.place.lid s) (is_tagged key x) row).0 in
         from xs (max best x.place.lid) (omega arith))
         (λ _. from xs best low)
 
--- what an indexer answers at the floor tells whether a later put is there
-told_later : (i : IndexerState) (key : List ℕ) (floor lid : ℕ) → replaced floor lid (newest_lid (newest_found i key floor)) ≡ (leb floor (head i.pair) && ltb lid (newest_row i.rows key floor))
+-- what an indexer answers at the floor tells whether a later update is there
+told_later : (i : IndexerState) (key : List ℕ) (floor lid : ℕ) → replaced floor lid (newest_position i key floor) ≡ (leb floor (head i.pair) && ltb lid (newest_row i.rows key floor))
 told_later i key floor lid = elim (cases_lt (head i.pair) floor) [
   | inl behind ↦ rw (lt-ltb (head i.pair) floor behind, lt-leb floor (head i.pair) behind) refl
   | inr covered ↦ rw (le-ltb (head i.pair) floor covered, le-leb floor (head i.pair) covered) (elim (cases_eq (newest_row i.rows key floor) 0) [
@@ -51,6 +52,13 @@ told_later i key floor lid = elim (cases_lt (head i.pair) floor) [
     and_true : (b : Bool) → (b && true) ≡ b
     and_true true = refl
     and_true false = refl
+
+-- where the last update of a put's key is, as its home tells it
+pub newest_told : (is : List IndexerState) (r : Record) (s : ℕ) (key : List ℕ) (home_is : IndexerState) (told : Newest) (result : Option ℕ) → r.kind ≡ Put → slice_get r.tags 0 ≡ Some key → home_is ≡ home_among is key
+    → newest_lid told ≡ newest_position home_is key s → result ≡ newest_lid told → result ≡ newest_of is r s
+newest_told is r s key home_is told result put first home_at position lid =
+    lid ∙ position ∙ ap (λ (i : IndexerState). newest_position i key s) home_at
+    ∙ sym (ap (λ (k : Kind). newest_for is k r.tags s) put ∙ ap (λ o. option_and_then (λ name. newest_position (home_among is name) name s) o) first)
 
 -- a put with one tag may go exactly where its home says so
 put_replaced : (is : List IndexerState) (floor lid : ℕ) (tags : List (List ℕ)) → length tags ≡ 1
@@ -68,6 +76,7 @@ kind_replaced : (is : List IndexerState) (floor lid : ℕ) (kind : Kind) (tags :
     ≡ (not (is_put kind) || list_all (λ key. leb floor (head (home_among is key).pair) && ltb lid (newest_row (home_among is key).rows key floor)) tags)
 kind_replaced is floor lid Append tags one = refl
 kind_replaced is floor lid Put tags one = put_replaced is floor lid tags (one refl)
+kind_replaced is floor lid Del tags one = refl
 
 -- the test of the collection floor, with what the home of its key says, is that of the stages
 pub may_go_is : (is : List IndexerState) (floor : ℕ) (table : List (List ℕ)) (dcs : ℕ) (e : Slot Record) (newer : Option ℕ) → IsKeyed dcs e.value → newer ≡ newest_of is e.value floor

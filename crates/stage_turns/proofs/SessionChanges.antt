@@ -10,7 +10,7 @@ use Rattle.abstract_log.specs.declared.answer.Answer.{Answer}
 use Rattle.abstract_log.specs.declared.answer.Answer.TheVariants.{Items, Read, Last as LastPlaces}
 use Rattle.abstract_log.specs.declared.answer.Found.{Found}
 use Rattle.abstract_log.specs.declared.command.Command.{Command}
-use Rattle.abstract_log.specs.declared.command.Command.TheVariants.{Append, Put, Get, Tx, Read as ReadCommand, Last}
+use Rattle.abstract_log.specs.declared.command.Command.TheVariants.{Append, Put, Del, Get, Tx, Read as ReadCommand, Last}
 use Rattle.abstract_log.specs.Answers.{found_at, read_in}
 use Rattle.abstract_log.specs.Commands.{draft_of, is_write}
 use Rattle.hyksos.specs.declared.next.Next.TheVariants.{Replied, Key, Below}
@@ -80,6 +80,7 @@ module _ (log : List Record) (x : SessionState) where
     look_moves : (c : Command) (m : ShelfState) (s : ℕ) → is_look c ≡ true → IsItsPin s → Moves b (look log c m x s)
     look_moves (Append tags body) m s looks its = absurd (cc)
     look_moves (Put key body) m s looks its = absurd (cc)
+    look_moves (Del key) m s looks its = absurd (cc)
     look_moves (Get key) m s looks its = key_moves (key ∷ []) m s (slice_get (key ∷ []) (length x.found)) its
     look_moves (Tx keys) m s looks its = key_moves keys m s (slice_get keys (length x.found)) its
     look_moves (ReadCommand p) m s looks its = absurd (cc)
@@ -101,6 +102,7 @@ module _ (log : List Record) (x : SessionState) where
     command_moves : (c : Command) (m : ShelfState) → is_write c ≡ false → Moves b (turn_with log m x c)
     command_moves (Append tags body) m reads = absurd (cc)
     command_moves (Put key body) m reads = absurd (cc)
+    command_moves (Del key) m reads = absurd (cc)
     command_moves (Get key) m reads = turn_moves (Get key) m x.pin refl refl
     command_moves (Tx keys) m reads = turn_moves (Tx keys) m x.pin refl refl
     command_moves (Last tag n) m reads = turn_moves (Last tag n) m x.pin refl refl

@@ -10,7 +10,7 @@ use Rattle.std.proofs.lemmas.List.Sums.{sum_by-cons, sum_by-append}
 use Rattle.std.proofs.lemmas.Option.{same_Some, slice_get-get_or}
 use Rattle.causal_deps.specs.declared.record.Record.{Record}
 use Rattle.abstract_log.specs.declared.command.Command.{Command}
-use Rattle.abstract_log.specs.declared.command.Command.TheVariants.{Append, Put, Get, Tx, Read as ReadCommand, Last as LastCommand}
+use Rattle.abstract_log.specs.declared.command.Command.TheVariants.{Append, Put, Del, Get, Tx, Read as ReadCommand, Last as LastCommand}
 use Rattle.abstract_log.specs.declared.answer.Answer.{Answer}
 use Rattle.abstract_log.specs.declared.answer.Answer.TheVariants.{Items, Read, Last}
 use Rattle.abstract_log.specs.declared.answer.Found.{Found}
@@ -266,6 +266,7 @@ module _ (w : World) (d : ℕ) (z : Datacentre) (h : StandsAt w d z) (m : ShelfS
       → ((p : ℕ) → 1 ≤ p → shown_at z p m.head ≡ read_in (log_of w d) m.gone p m.head) → open_turn d (record z { sessions = xs }) x m.head c ≡ told_all (turn_with (log_of w d) m x c)
   open_is (Append tags body) reads fits pinned shown = absurd (false≢true (sym reads))
   open_is (Put key body) reads fits pinned shown = absurd (false≢true (sym reads))
+  open_is (Del key) reads fits pinned shown = absurd (false≢true (sym reads))
   open_is (Get key) reads fits pinned shown = keys_looked (Get key) (key ∷ []) refl (omega arith) pinned
   open_is (Tx keys) reads fits pinned shown = keys_looked (Tx keys) keys refl fits.0 pinned
   open_is (ReadCommand p) reads fits pinned shown = read_is p (shown p fits.0)
@@ -275,6 +276,7 @@ module _ (w : World) (d : ℕ) (z : Datacentre) (h : StandsAt w d z) (m : ShelfS
 begun_same : (held : List Record) (m : ShelfState) (x : Session) (c : Command) → is_write c ≡ false → turn_with held m (begun x) c ≡ turn_with held m x c
 begun_same held m x (Append tags body) reads = absurd (false≢true (sym reads))
 begun_same held m x (Put key body) reads = absurd (false≢true (sym reads))
+begun_same held m x (Del key) reads = absurd (false≢true (sym reads))
 begun_same held m x (Get key) reads = refl
 begun_same held m x (Tx keys) reads = refl
 begun_same held m x (ReadCommand p) reads = refl
@@ -447,6 +449,7 @@ module _ (log : List Record) (m : ShelfState) (x : Session) (pin_is : get_or m.p
   held_with : (c : Command) → is_write c ≡ false → ((p : ℕ) → c ≡ ReadCommand p → x.pin ≡ None) → IsHeld m.floor x.number m.pins (turn_with log m x c)
   held_with (Append tags body) reads none = absurd (false≢true (sym reads))
   held_with (Put key body) reads none = absurd (false≢true (sym reads))
+  held_with (Del key) reads none = absurd (false≢true (sym reads))
   held_with (Get key) reads none =
       held_look (key_taken log (key ∷ []) m x) (key_taken log (key ∷ []) (pinned_at_head m x) x m.head) (λ s is. held_keys log m.floor m.pins x m s refl (pins_stay (Some s) is) (key ∷ []))
       (held_keys log m.floor m.pins x (pinned_at_head m x) m.head refl refl (key ∷ []))

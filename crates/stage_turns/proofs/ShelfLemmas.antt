@@ -2,25 +2,24 @@
 use Rattle.std.proofs.Common.{◌≡◌, ◌≢◌, ◌↔◌, ℕ, zero, suc, ◌+◌, ◌-◌, ◌^◌, ◌%◌, ◌<◌, ◌≤◌, ◌&&◌, min, Bool, true, false, cond, leb, ltb, eqb, List, [], ◌∷◌, ◌++◌, length, map, drop, get_or, refl, ap, sym, ◌∙◌, subst, inl, inr, arith, sum, Option, Some, None, IsSome, is_some, Result, Ok, Err, IfOk}
 use Rattle.std.specs.Bool.{IsTrue}
 use Rattle.std.specs.List.{All, Contains, flat_map, list_any}
-use Rattle.std.specs.Option.{option_map_or}
 use Rattle.std.proofs.Math.Nat.{mod-lt}
 use Rattle.std.proofs.lemmas.Bool.{and_from, and_parts, cases_lt, cond_both, eq-eqb, eqb-false, le-leb, leb-true, lt-ltb, le-ltb, ltb-true, ne_eqb, or_cases, or_left, or_right}
 use Rattle.std.proofs.lemmas.Bool.Decides.{nat_tests}
 use Rattle.std.proofs.lemmas.List.{get_or_default, get_or-map, length-map}
 use Rattle.std.proofs.lemmas.List.Elements.{All-head, All-tail, Contains-append_cases, Contains-append_left, Contains-append_right}
 use Rattle.causal_deps.specs.declared.answers.Newest.{Newest}
-use Rattle.causal_deps.specs.declared.answers.Newest.TheVariants.{Behind, Found, Absent}
+use Rattle.causal_deps.specs.declared.answers.Newest.TheVariants.{Behind, Found}
 use Rattle.causal_deps.specs.declared.answers.Pin.{Pin}
 use Rattle.causal_deps.specs.declared.answers.Pin.TheVariants.{Pinned, BelowFloor}
 use Rattle.causal_deps.specs.declared.record.Record.{Record}
 use Rattle.abstract_log.specs.Answers.{newest}
+use Rattle.abstract_log.specs.Updates.{told_place}
 use Rattle.flstore_rounds.specs.Heads.{Pair, blank, head}
 use Rattle.hyksos.specs.Shelves.{ShelfState, covered_for, newest_told}
 use Rattle.log_gc.specs.Floors.{Floored, pin_of}
 use Rattle.maintainer.specs.declared.slot.Slot.{Slot}
 use Rattle.maintainer.specs.Maintainers.{AreRising, MaintainerState, entry_after, is_some_within, value_at}
 use Rattle.tag_indexer.specs.Indexers.{IndexerState}
-use Rattle.tag_indexer.specs.Indexed.{found_in}
 use Rattle.tag_indexer.specs.Rows.{home}
 use Rattle.stage_world.specs.Stages.{indexer_at, no_epochs, no_indexer, vector_at}
 use Rattle.stage_world.proofs.ListLemmas.{Contains-cases}
@@ -174,28 +173,23 @@ covered_at v ms is g some key n at x items size number same stands =
 pub serving_is : (vs items : List Pair) (s first : ℕ) (v : Pair) → items ≡ vs → v ≡ get_or items (s % first) v → s % first < length vs → v ≡ vector_at vs (s % first)
 serving_is vs items s first v same stands within = stands ∙ ap (λ l. get_or l (s % first) v) same ∙ get_or_default vs (s % first) v (blank no_epochs) within
 
-pub told_as : (log : List Record) (m : ShelfState) (key : List ℕ) (s covered : ℕ) (result : Newest) → covered_for m key ≡ covered → (covered < s → result ≡ Behind covered) → (s ≤ covered → result ≡ found_in (newest log key s)) → result ≡ newest_told log m key s
-told_as log m key s covered result is behind found = subst (λ n. result ≡ cond (ltb n s) (Behind n) (option_map_or Found (newest log key s) Absent)) (sym is)
-    (cond_both (ltb covered s) (Behind covered) (option_map_or Found (newest log key s) Absent) (λ told. result ≡ told) (λ low. behind (ltb-true covered s low)) (λ high. found (grind (arith, nat_tests, high)) ∙ in_words (newest log key s)))
-  where
-    in_words : (o : Option ℕ) → found_in o ≡ option_map_or Found o Absent
-    in_words None = refl
-    in_words (Some p) = refl
+pub told_as : (log : List Record) (m : ShelfState) (key : List ℕ) (s covered : ℕ) (result : Newest) → covered_for m key ≡ covered → (covered < s → result ≡ Behind covered) → (s ≤ covered → result ≡ told_place log (newest log key s)) → result ≡ newest_told log m key s
+told_as log m key s covered result is behind found = subst (λ n. result ≡ cond (ltb n s) (Behind n) (told_place log (newest log key s))) (sym is)
+    (cond_both (ltb covered s) (Behind covered) (told_place log (newest log key s)) (λ told. result ≡ told) (λ low. behind (ltb-true covered s low)) (λ high. found (grind (arith, nat_tests, high))))
 
 -- what is told to be found is the log's, as far as is covered
-pub found_told : (log : List Record) (m : ShelfState) (key : List ℕ) (s p : ℕ) → newest_told log m key s ≡ Found p → (s ≤ covered_for m key) × (newest log key s ≡ Some p)
-found_told log m key s p is = by_tests (ltb (covered_for m key) s) refl (newest log key s) is
+pub found_told : (log : List Record) (m : ShelfState) (key : List ℕ) (s p : ℕ) → newest_told log m key s ≡ Found p → (s ≤ covered_for m key) × (told_place log (newest log key s) ≡ Found p)
+found_told log m key s p is = by_test (ltb (covered_for m key) s) refl is
   where
-    by_tests : (b : Bool) → ltb (covered_for m key) s ≡ b → (o : Option ℕ) → cond b (Behind (covered_for m key)) (option_map_or Found o Absent) ≡ Found p → (s ≤ covered_for m key) × (o ≡ Some p)
-    by_tests true low o bad = absurd (cc)
-    by_tests false high None bad = absurd (cc)
-    by_tests false high (Some q) same = (grind (arith, nat_tests, high), (let one : q ≡ p = cc in ap Some one))
+    by_test : (b : Bool) → ltb (covered_for m key) s ≡ b → cond b (Behind (covered_for m key)) (told_place log (newest log key s)) ≡ Found p → (s ≤ covered_for m key) × (told_place log (newest log key s) ≡ Found p)
+    by_test true low bad = absurd (cc)
+    by_test false high same = (grind (arith, nat_tests, high), same)
 
 -- a pin, as it is told
 pub pin_is : (s floor : ℕ) (result : Pin) → (result ≡ Pinned) ↔ (floor ≤ s) → ((f : ℕ) → (result ≡ BelowFloor f) ↔ ((f ≡ floor) × (s < floor))) → result ≡ cond (ltb s floor) (BelowFloor floor) Pinned
 pin_is s floor result taken refused = cond_both (ltb s floor) (BelowFloor floor) Pinned (λ told. result ≡ told) (λ low. (refused floor).1 (refl, ltb-true s floor low)) (λ high. taken.1 (grind (arith, nat_tests, high)))
 
--- the newest value of a key at a pinned position is kept
+-- a put that is the last update of its key at a pinned position is kept
 pub not_missing : (v : Pair) (ms : List (MaintainerState Record)) (is : List IndexerState) (g : Floored) (log : List Record) (key : List ℕ) (n s p : ℕ) → ShowsLog v ms is g log → pin_of g n ≡ Some s → newest_told log (shelf_of v ms is g) key s ≡ Found p
     → None ≡ record_kept ms p → false ≡ true
 not_missing v ms is g log key n s p shows pin told none =

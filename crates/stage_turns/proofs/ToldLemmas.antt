@@ -5,9 +5,11 @@ use Rattle.std.proofs.lemmas.Bool.{cases_eq, cond-true, cond-false, cond_both, n
 use Rattle.std.proofs.lemmas.List.Elements.{All-nil, All-cons, All-head, All-tail, All-filter, All-map, All-weaker, All-contains}
 use Rattle.std.proofs.lemmas.List.Folds.{flat_map-map}
 use Rattle.std.proofs.lemmas.List.Sums.{sum_by-cons}
+use Rattle.cz_base.specs.Text.{IsBody}
 use Rattle.causal_deps.specs.Counts.{entry_of}
 use Rattle.causal_deps.specs.declared.record.Kind.{Kind}
-use Rattle.causal_deps.specs.declared.record.Kind.TheVariants.{Append, Put}
+use Rattle.causal_deps.specs.declared.record.Kind.TheVariants.{Append, Put, Del}
+use Rattle.causal_deps.specs.Kinds.{is_update}
 use Rattle.causal_deps.specs.declared.record.Record.{Record}
 use Rattle.abstract_log.specs.declared.world.World.{World}
 use Rattle.abstract_log.specs.Worlds.{log_of, table_of}
@@ -17,7 +19,7 @@ use Rattle.log_laws.proofs.Places.{All-at_place}
 use Rattle.maintainer.specs.declared.slot.Slot.{Slot}
 use Rattle.maintainer.specs.Maintainers.{IsEntryOf, MaintainerState, plain, times_filled}
 use Rattle.record_codec.specs.declared.message.Message.{Message}
-use Rattle.record_codec.specs.Wire.{FitsRecord, HasTexts, SpellsMessage, fewest_tags, message_bytes, most_tags}
+use Rattle.record_codec.specs.Wire.{FitsRecord, HasTexts, SpellsMessage, fewest_tags, message_bytes, most_body, most_tags}
 use Rattle.sender_receiver.specs.Sending.{message_to}
 use Rattle.sender_receiver.specs.Stocks.{Stocked, records_in}
 use Rattle.stage_world.specs.MoreTurns.{message_of, sorted_in, stock_of, stocked}
@@ -36,9 +38,16 @@ record HasTags (kind : Kind) (tags : List (List ℕ)) : Type 0 where
   first : fewest_tags kind ≤ length tags
   last : length tags ≤ most_tags kind
 
-tags_fit : (kind : Kind) (tags : List (List ℕ)) → (kind ≡ Put → (name : List ℕ) × (tags ≡ name ∷ [])) → length tags ≤ 8 → HasTags kind tags
+tags_fit : (kind : Kind) (tags : List (List ℕ)) → (is_update kind ≡ true → (name : List ℕ) × (tags ≡ name ∷ [])) → length tags ≤ 8 → HasTags kind tags
 tags_fit Append tags key few = record { first = omega arith; last = few }
 tags_fit Put tags key few = let one = ap length (key refl).1 in record { first = omega (arith, one); last = omega (arith, one) }
+tags_fit Del tags key few = let one = ap length (key refl).1 in record { first = omega (arith, one); last = omega (arith, one) }
+
+-- a body of no more bytes than its kind may have
+body_fits : (kind : Kind) (body : List ℕ) → (kind ≡ Del → body ≡ []) → IsBody body → length body ≤ most_body kind
+body_fits Append body silent fits = fits.short
+body_fits Put body silent fits = fits.short
+body_fits Del body silent fits = omega (arith, ap length (silent refl))
 
 pub valid_fits : (dcs : ℕ) (r : Record) → IsValid dcs r → FitsRecord dcs r
 valid_fits dcs r h = let tags = tags_fit r.kind r.tags h.key h.tags in record {
@@ -53,6 +62,7 @@ valid_fits dcs r h = let tags = tags_fit r.kind r.tags h.key h.tags in record {
   own = h.before;
   tags_first = tags.first;
   tags = tags.last;
+  body = body_fits r.kind r.body h.silent h.body;
 }
 
 pub valid_texts : (dcs : ℕ) (r : Record) → IsValid dcs r → HasTexts r

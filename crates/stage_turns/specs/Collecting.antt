@@ -4,17 +4,15 @@ use Rattle.cz_base.specs.declared.limits.TheConstants.{MEMBERS}
 use Rattle.std.specs.List.{list_all}
 use Rattle.std.specs.Option.{option_and_then}
 use Rattle.causal_deps.specs.declared.record.Kind.{Kind}
-use Rattle.causal_deps.specs.declared.record.Kind.TheVariants.{Append, Put}
+use Rattle.causal_deps.specs.declared.record.Kind.TheVariants.{Append, Put, Del}
+use Rattle.causal_deps.specs.Kinds.{is_put}
 use Rattle.causal_deps.specs.declared.record.Record.{Record}
 use Rattle.causal_deps.specs.declared.record.Place.{Place}
-use Rattle.causal_deps.specs.declared.answers.Newest.{Newest}
-use Rattle.causal_deps.specs.declared.answers.Newest.TheVariants.{Behind, Found, Absent}
-use Rattle.abstract_log.specs.Answers.{is_put}
 use Rattle.awareness_table.specs.Awareness.{is_known_everywhere}
 use Rattle.flstore_rounds.specs.Heads.{head}
 use Rattle.log_gc.specs.Floors.{Floored, raised}
 use Rattle.maintainer.specs.declared.slot.Slot.{Slot}
-use Rattle.tag_indexer.specs.Indexers.{IndexerState, newest_found}
+use Rattle.tag_indexer.specs.Indexers.{IndexerState, newest_position}
 use Rattle.tag_indexer.specs.Rows.{home, newest_row}
 use Rattle.stage_world.specs.Stages.{indexer_at, no_indexer}
 
@@ -36,16 +34,11 @@ pub record AreHomes (is : List IndexerState) : Type 0 where
   pub few : length is ≤ MEMBERS
   pub each : (i : ℕ) → i < length is → ((indexer_at is i).number ≡ i) × ((indexer_at is i).indexers ≡ length is)
 
--- the place of a newest put, if there is one
-abbrev pub newest_lid : Newest → Option ℕ
-newest_lid (Behind covered) = None
-newest_lid (Found lid) = Some lid
-newest_lid Absent = None
-
--- the last put of a record's key at or below s, if it is a put and the key's home is that far
+-- where the last update of a put's key at or below s is, if the key's home is that far
 abbrev pub newest_for : List IndexerState → Kind → List (List ℕ) → ℕ → Option ℕ
 newest_for is Append tags s = None
-newest_for is Put tags s = option_and_then (λ key. newest_lid (newest_found (home_among is key) key s)) (slice_get tags 0)
+newest_for is Put tags s = option_and_then (λ key. newest_position (home_among is key) key s) (slice_get tags 0)
+newest_for is Del tags s = None
 
 abbrev pub newest_of : List IndexerState → Record → ℕ → Option ℕ
 newest_of is r s = newest_for is r.kind r.tags s

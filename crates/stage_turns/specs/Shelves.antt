@@ -3,7 +3,9 @@ use Rattle.std.specs.Prelude.{◌≡◌, ◌⊎◌, ℕ, ◌^◌, ◌<◌, ◌�
 use Rattle.cz_base.specs.declared.limits.TheConstants.{NUMBERS_END}
 use Rattle.causal_deps.specs.declared.record.Record.{Record}
 use Rattle.causal_deps.specs.Logs.{record_at}
+use Rattle.causal_deps.specs.declared.answers.Newest.TheVariants.{Found}
 use Rattle.abstract_log.specs.Answers.{newest}
+use Rattle.abstract_log.specs.Updates.{told_place}
 use Rattle.flstore_rounds.specs.Heads.{Pair, head}
 use Rattle.hyksos.specs.Shelves.{ShelfState, covered_for}
 use Rattle.log_gc.specs.Floors.{Floored, pin_of}
@@ -28,8 +30,8 @@ pub record IsIndexerOf (log : List Record) (n i : ℕ) (x : IndexerState) : Type
   pub indexed : IsIndexed log x
   pub within : head x.pair ≤ length log
 
--- What stands at the maintainers is the log's or gone: all of it up to the head, and each newest value at or above the floor, where
--- no pin is below it.
+-- What stands at the maintainers is the log's or gone: all of it up to the head, and each put that is the last update of its key at or
+-- above the floor, where no pin is below it.
 pub record ShowsLog (v : Pair) (ms : List (MaintainerState Record)) (is : List IndexerState) (g : Floored) (log : List Record) : Type 0 where
   pub within : head v ≤ length log
   pub indexers : (i : ℕ) → i < length is → IsIndexerOf log (length is) i (indexer_at is i)
@@ -37,5 +39,5 @@ pub record ShowsLog (v : Pair) (ms : List (MaintainerState Record)) (is : List I
   pub filled : (p : ℕ) → 1 ≤ p → p ≤ head v → Contains (gone_in ms) p ⊎ IsSome (record_kept ms p)
   pub apart : (p : ℕ) → Contains (gone_in ms) p → record_kept ms p ≡ None
   pub small : (p : ℕ) → Contains (gone_in ms) p → p < NUMBERS_END
-  pub newest : (key : List ℕ) (s p : ℕ) → g.floor ≤ s → s ≤ covered_for (shelf_of v ms is g) key → newest log key s ≡ Some p → IsSome (record_kept ms p)
+  pub newest : (key : List ℕ) (s p : ℕ) → g.floor ≤ s → s ≤ covered_for (shelf_of v ms is g) key → told_place log (newest log key s) ≡ Found p → IsSome (record_kept ms p)
   pub pins : (n s : ℕ) → pin_of g n ≡ Some s → g.floor ≤ s

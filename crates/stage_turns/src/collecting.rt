@@ -6,11 +6,11 @@ ghost use Rattle.abstract_log.specs.declared.event.Event.TheVariants.{Collect as
 ghost use Rattle.abstract_log.specs.declared.script.Outcome.TheVariants.{FloorAt as FloorIsAt};
 ghost use Rattle.flstore_rounds.specs.Heads.{head};
 ghost use Rattle.maintainer.specs.Maintainers.{collected, value_at};
-ghost use Rattle.tag_indexer.specs.Indexers.{newest_found};
+ghost use Rattle.tag_indexer.specs.Indexers.{newest_lid};
 ghost use Rattle.tag_indexer.specs.Rows.{home};
 ghost use Rattle.stage_world.specs.MoreTurns.{collected_outcome, place_of_entry};
 ghost use Rattle.stage_turns.specs.Changing.{has_some};
-ghost use Rattle.stage_turns.specs.Collecting.{AreHomes, IsKeyed, MayCollect, covered_by, home_among, lid_at, lid_of_place, may_go, newest_lid, newest_of, risen, to_go};
+ghost use Rattle.stage_turns.specs.Collecting.{AreHomes, IsKeyed, MayCollect, covered_by, home_among, lid_at, lid_of_place, may_go, newest_of, risen, to_go};
 
 use crate::TurnDone;
 use crate::done::has_some;
@@ -61,7 +61,7 @@ fn least_covered(indexers: &[Indexer], bound: Lid) -> Lid
 }
 
 /// The maintainer lets each record go that may be collected: it is at or below the collection floor, every datacentre is
-/// known to have it, and if it is a put, its key's home indexer knows a later one at or below the floor. Their places go
+/// known to have it, and if it is a put, its key's home indexer knows a later update of it at or below the floor. Their places go
 /// last into the list of what was collected; the outcome is their positions, or `Nothing` where there are none.
 pub fn collect(
     dc: DcId,
@@ -141,7 +141,7 @@ fn may_go(slot: &Slot<Record>, indexers: &[Indexer], table: &Aware, floor: &Gc) 
     floor.may_collect(slot.lid, &slot.value, table, newer)
 }
 
-// The last put of the record's key at or below s, if it is a put and the key's home indexer is that far.
+// Where the last update of a put's key at or below s is, if the key's home indexer is that far.
 fn newest_of(rec: &Record, indexers: &[Indexer], s: Lid) -> Option<Lid>
     requires { AreHomes indexers.now }
     ensures { result ≡ newest_of indexers.now rec.now s }
@@ -155,13 +155,14 @@ fn newest_of(rec: &Record, indexers: &[Indexer], s: Lid) -> Option<Lid>
     }
 }
 
-// The position of the put that was found.
+// The position of the update that was found.
 fn newest_lid(newest: Newest) -> Option<Lid>
     ensures { result ≡ newest_lid newest }
 {
     match newest {
         Newest::Behind { .. } => None,
         Newest::Found { lid } => Some(lid),
+        Newest::Deleted { place } => Some(place.lid),
         Newest::Absent => None,
     }
 }

@@ -10,7 +10,7 @@ ghost use Rattle.stage_turns.specs.Posting.{MayPost, is_between, post_mark};
 use crate::TurnDone;
 use crate::collecting::place_of;
 use abstract_log::Outcome;
-use causal_deps::{Kind, Record};
+use causal_deps::Record;
 use cz_base::{Lid, NoMemory, Seq};
 use maintainer::{Maintainer, Slot};
 use std::alloc::Global;
@@ -84,7 +84,7 @@ fn row_of(slot: &Slot<Record>) -> Result<Post, NoMemory>
 {
     Ok(Post {
         place: place_of(slot),
-        put: slot.value.kind == Kind::Put,
+        kind: slot.value.kind,
         tags: slot.value.tags.copy()?,
     })
 }

@@ -7,7 +7,7 @@ use Rattle.std.proofs.lemmas.Bool.{cond_both, eqb-true}
 use Rattle.std.proofs.lemmas.Option.{same_Some}
 use Rattle.causal_deps.specs.declared.record.Draft.{Draft}
 use Rattle.abstract_log.specs.declared.command.Command.{Command}
-use Rattle.abstract_log.specs.declared.command.Command.TheVariants.{Append, Put, Get, Tx, Read as ReadCommand, Last as LastCommand}
+use Rattle.abstract_log.specs.declared.command.Command.TheVariants.{Append, Put, Del, Get, Tx, Read as ReadCommand, Last as LastCommand}
 use Rattle.abstract_log.specs.declared.answer.Answer.{Answer}
 use Rattle.abstract_log.specs.declared.answer.Answer.TheVariants.{Items, Read, Last}
 use Rattle.abstract_log.specs.declared.answer.Found.{Found}
@@ -111,6 +111,7 @@ module _ (d : ℕ) (z : Datacentre) (x : Session) (found : find (λ y. eqb y.num
   opened : (top : ℕ) (c : Command) → Goes (open_turn d z x top c)
   opened top (Append tags body) = still (Unacknowledged (next_index x))
   opened top (Put key body) = still (Unacknowledged (next_index x))
+  opened top (Del key) = still (Unacknowledged (next_index x))
   opened top (ReadCommand p) = cond_both (ltb top x.standing.floor) (waiting_turn z x top) (reply_with d z x (Read (shown_at z p top)) top) Goes
       (λ _. still (Waiting (next_index x) x.standing.floor top)) (λ _. replies (Read (shown_at z p top)) top)
   opened top (Get key) = looks top (key_turn d z x (key ∷ [])) (looks_up (key ∷ []))

@@ -2,19 +2,21 @@
 use Rattle.std.specs.Prelude.{ℕ, ◌%◌, ◌==◌, if◌then◌else◌, nat_lt, List, [], ◌∷◌, ◌++◌, length, Some, find, slice_get}
 use Rattle.std.specs.Option.{option_map_or}
 use Rattle.abstract_log.specs.declared.command.Command.{Command}
-use Rattle.abstract_log.specs.declared.command.Command.TheVariants.{Append as AppendCommand, Put, Get, Tx, Read as ReadCommand, Last as LastCommand}
+use Rattle.abstract_log.specs.declared.command.Command.TheVariants.{Append as AppendCommand, Put, Del, Get, Tx, Read as ReadCommand, Last as LastCommand}
 use Rattle.abstract_log.specs.declared.event.Event.TheVariants.{Submit, Reply}
 use Rattle.abstract_log.specs.declared.answer.Answer.{Answer}
 use Rattle.abstract_log.specs.declared.answer.Answer.TheVariants.{Items, Read, Last}
-use Rattle.abstract_log.specs.declared.answer.Found.{Found}
-use Rattle.abstract_log.specs.declared.answer.Found.TheVariants.{Absent as AbsentKey}
+use Rattle.abstract_log.specs.declared.answer.Found.{Found as FoundItem}
+use Rattle.abstract_log.specs.declared.answer.Found.TheVariants.{Absent as AbsentKey, Deleted as DeletedKey}
+use Rattle.causal_deps.specs.declared.answers.Newest.{Newest}
+use Rattle.causal_deps.specs.declared.answers.Newest.TheVariants.{Behind as BehindIndex, Found as FoundPut, Deleted, Absent as NoUpdate}
 use Rattle.abstract_log.specs.declared.answer.ReadAnswer.{ReadAnswer}
 use Rattle.abstract_log.specs.declared.answer.ReadAnswer.TheVariants.{Beyond, Gone}
 use Rattle.abstract_log.specs.declared.script.Outcome.TheVariants.{Absent, Unacknowledged, Finished, Submitted, Replied, Waiting, Below, Behind, Key}
 use Rattle.abstract_log.specs.Commands.{draft_of}
 use Rattle.abstract_log.specs.Answers.{shown_record, found_record, last_of}
 use Rattle.flstore_rounds.specs.Heads.{head}
-use Rattle.tag_indexer.specs.Rows.{newest_row, tagged_places}
+use Rattle.tag_indexer.specs.Rows.{newest_row, tagged_places, told_row}
 pub use Rattle.hyksos.specs.Sessions.{next_index, replied}
 use Rattle.stage_world.specs.Stages.{Datacentre, Session, vector_at}
 use Rattle.stage_world.specs.Turns.{Turned, quiet, at_session, begun, submitted}
@@ -24,11 +26,16 @@ use Rattle.stage_world.specs.MoreTurns.{record_kept, home_of}
 abbrev pub shown_at : Datacentre → ℕ → ℕ → ReadAnswer
 shown_at z p s = if nat_lt s p then Beyond else option_map_or (λ r. shown_record p (Some r)) (record_kept z.maintainers p) Gone
 
--- what an indexer finds under a key at s
-abbrev pub looked_up : Datacentre → List ℕ → ℕ → Found
-looked_up z key s =
-    let p = newest_row (home_of z key).rows key s in
-    if p == 0 then AbsentKey else found_record p (record_kept z.maintainers p)
+-- what is found where an indexer tells this of a key: a put is read where it stands, a del is what was told
+abbrev pub found_where : Datacentre → Newest → FoundItem
+found_where z (BehindIndex covered) = AbsentKey
+found_where z (FoundPut p) = found_record p (record_kept z.maintainers p)
+found_where z (Deleted place) = DeletedKey place
+found_where z NoUpdate = AbsentKey
+
+-- what is found under a key at s
+abbrev pub looked_up : Datacentre → List ℕ → ℕ → FoundItem
+looked_up z key s = found_where z (told_row (home_of z key).rows (newest_row (home_of z key).rows key s))
 
 -- session x is answered
 abbrev pub reply_with : ℕ → Datacentre → Session → Answer → ℕ → Turned
@@ -39,10 +46,10 @@ reply_with d z x answer s = record {
 }
 
 -- a session that reads at s and has found so much
-abbrev pub found_more : ℕ → List Found → Session → Session
+abbrev pub found_more : ℕ → List FoundItem → Session → Session
 found_more s found x = record x { pin = Some s; found = found }
 
-abbrev pub reading_at : Datacentre → Session → ℕ → List Found → Datacentre
+abbrev pub reading_at : Datacentre → Session → ℕ → List FoundItem → Datacentre
 reading_at z x s found = record z { sessions = at_session x.number (found_more s found) z.sessions }
 
 -- the indexer of the tag does not cover position s yet: the pin stays
@@ -50,7 +57,7 @@ abbrev pub behind_turn : Datacentre → Session → List ℕ → ℕ → Turned
 behind_turn z x tag s = quiet (Behind (next_index x) (head (home_of z tag).pair)) (reading_at z x s x.found)
 
 -- the next of these keys is looked up at s; the command is answered with the last
-abbrev pub found_turn : ℕ → Datacentre → Session → List (List ℕ) → ℕ → List Found → Turned
+abbrev pub found_turn : ℕ → Datacentre → Session → List (List ℕ) → ℕ → List FoundItem → Turned
 found_turn d z x keys s found =
     if length found == length keys then reply_with d z x (Items found) s
     else quiet (Key (next_index x) (length found) (length keys) s) (reading_at z x s found)
@@ -83,6 +90,7 @@ look_turn z x top look = option_map_or look x.pin
 abbrev pub open_turn : ℕ → Datacentre → Session → ℕ → Command → Turned
 open_turn d z x top (AppendCommand tags body) = quiet (Unacknowledged (next_index x)) z
 open_turn d z x top (Put key body) = quiet (Unacknowledged (next_index x)) z
+open_turn d z x top (Del key) = quiet (Unacknowledged (next_index x)) z
 open_turn d z x top (ReadCommand p) = if nat_lt top x.standing.floor then waiting_turn z x top else reply_with d z x (Read (shown_at z p top)) top
 open_turn d z x top (Get key) = look_turn z x top (key_turn d z x (key ∷ []))
 open_turn d z x top (Tx keys) = look_turn z x top (key_turn d z x keys)

@@ -1,84 +1,66 @@
 -- What the listed positions answer is what the rows have.
 use Rattle.std.proofs.Common.{◌≡◌, ◌≢◌, ℕ, zero, suc, ◌+◌, ◌-◌, ◌<◌, ◌≤◌, true, false, cond, eqb, leb, ◌&&◌, List, [], ◌∷◌, ◌++◌, length, take, get_or, Option, Some, None, refl, ap, sym, ◌∙◌, subst, inl, inr, arith, option_map, option_to_list}
 use Rattle.std.specs.List.{All, Contains, find, filter_map, cons_option}
-use Rattle.std.specs.Option.{option_map_or, MatchOption}
+use Rattle.std.specs.Option.{option_map_or}
 use Rattle.std.proofs.lemmas.List.{append-nil, get_or_default, get_or-take, length-take-le, take_more, take_all}
 use Rattle.std.proofs.lemmas.List.Elements.{All-contains, Contains-push_cases, filter_map-append}
-use Rattle.std.proofs.lemmas.Bool.{cases_lt, cases_eq, cond_both, cond-true, cond-false, and_parts, and_from, leb-true, le-leb, eq-eqb, ne_eqb, eqb-true, true≢false}
+use Rattle.std.proofs.lemmas.Bool.{cases_lt, cases_eq, cond_both, cond-true, and_parts, and_from, leb-true, le-leb, eqb-true, true≢false}
+use Rattle.causal_deps.specs.declared.answers.Newest.TheVariants.{Absent}
 use Rattle.causal_deps.specs.declared.record.Place.{Place}
-use Rattle.causal_deps.proofs.Lists.{Contains-cons}
+use Rattle.causal_deps.specs.Kinds.{is_update}
+use Rattle.abstract_log.specs.Updates.{told_by}
 use Rattle.tag_indexer.specs.declared.post.Post.{Post}
-use Rattle.tag_indexer.specs.Rows.{is_tagged, newest_row, tagged_row, tagged_places}
+use Rattle.tag_indexer.specs.Rows.{is_tagged, newest_row, tagged_row, tagged_places, told_row}
 use Rattle.tag_indexer.specs.Indexers.{AreInOrder}
-use Rattle.tag_indexer.specs.TagIndexes.{AreLidsRising, ArePutsListed, AreTagsListed, IsLastPut, IsListed, has_put_at, place_tagged_at}
-use Rattle.tag_indexer.proofs.RowLemmas.{AreRows, rows_parts}
-use Rattle.tag_indexer.proofs.NewestLemmas.{is_put_row, newest_from, newest_from-upper, newest_from-reached}
+use Rattle.tag_indexer.specs.TagIndexes.{AreLidsRising, AreTagsListed, AreUpdatesListed, IsLastUpdate, IsListed, has_update_at, place_tagged_at}
+use Rattle.tag_indexer.proofs.RowLemmas.{AreRows}
+use Rattle.tag_indexer.proofs.FindLemmas.{find_row}
+use Rattle.tag_indexer.proofs.NewestLemmas.{is_update_row, newest_from, newest_from-upper, newest_from-reached, told_first, told_of}
 use Rattle.tag_indexer.proofs.TaggedLemmas.{find_tells, find_none}
 use Rattle.tag_indexer.proofs.TagLemmas.{front_rises}
 
--- of rows that rise, the one at a position is the one that stands there
-pub find_row : (rows : List Post) (x : Post) → AreRows rows → Contains rows x → find (λ post. eqb post.place.lid x.place.lid) rows ≡ Some x
-find_row [] x rise has = absurd (omega (arith, has.1))
-find_row (y ∷ ys) x rise has = elim (Contains-cons y ys x has) [
-  | inl is ↦ cond-true (eqb y.place.lid x.place.lid) (Some y) (find (λ post. eqb post.place.lid x.place.lid) ys) (eq-eqb y.place.lid x.place.lid (ap (λ (z : Post). z.place.lid) is)) ∙ ap Some is
-  | inr later ↦
-      let parts = rows_parts y ys rise in
-      let above : y.place.lid < x.place.lid = All-contains (λ (z : Post). y.place.lid < z.place.lid) ys x parts.0 later in
-      cond-false (eqb y.place.lid x.place.lid) (Some y) (find (λ post. eqb post.place.lid x.place.lid) ys) (ne_eqb y.place.lid x.place.lid (λ same. absurd (omega arith)))
-      ∙ find_row ys x parts.1 later
-]
-
--- a put row is found at its position
-put_found : (rows : List Post) (x : Post) (key : List ℕ) (s : ℕ) → AreRows rows → Contains rows x → is_put_row key s x ≡ true → has_put_at rows key x.place.lid ≡ true
-put_found rows x key s rise has is =
-    let outer = and_parts x.put (leb x.place.lid s && is_tagged key x) is in
+-- an update's row is found at its position
+update_found : (rows : List Post) (x : Post) (key : List ℕ) (s : ℕ) → AreRows rows → Contains rows x → is_update_row key s x ≡ true → has_update_at rows key x.place.lid ≡ true
+update_found rows x key s rise has is =
+    let outer = and_parts (is_update x.kind) (leb x.place.lid s && is_tagged key x) is in
     let inner = and_parts (leb x.place.lid s) (is_tagged key x) outer.1 in
-    ap (λ o. option_map_or (λ (post : Post). post.put && is_tagged key post) o false) (find_row rows x rise has) ∙ and_from x.put (is_tagged key x) outer.0 inner.1
-
--- where a put is found, a put row stands
-put_stands : (rows : List Post) (key : List ℕ) (p : ℕ) → has_put_at rows key p ≡ true → (x : Post) × Contains rows x × (x.place.lid ≡ p) × (x.put ≡ true) × (is_tagged key x ≡ true)
-put_stands rows key p is = by_row (find (λ post. eqb post.place.lid p) rows) refl is
-  where
-    by_row : (o : Option Post) → find (λ post. eqb post.place.lid p) rows ≡ o → option_map_or (λ (post : Post). post.put && is_tagged key post) o false ≡ true → (x : Post) × Contains rows x × (x.place.lid ≡ p) × (x.put ≡ true) × (is_tagged key x ≡ true)
-    by_row None found has = absurd (cc)
-    by_row (Some x) found has =
-        let there = find_tells (λ (post : Post). eqb post.place.lid p) rows x found in
-        let both = and_parts x.put (is_tagged key x) has in
-        (x, there.0, eqb-true x.place.lid p there.1, both.0, both.1)
+    ap (λ o. option_map_or (λ (post : Post). is_update post.kind && is_tagged key post) o false) (find_row rows x rise has) ∙ and_from (is_update x.kind) (is_tagged key x) outer.0 inner.1
 
 module _ (rows : List Post) (key : List ℕ) (s : ℕ) (h : AreInOrder rows) where
-  pub newest_some : (puts : List (List ℕ × List ℕ)) (lids : List ℕ) (q : ℕ) → ArePutsListed puts rows key → All (λ p. p ≤ s) lids → ((p : ℕ) → p ≤ s → IsListed puts key p → Contains lids p) → IsLastPut rows key lids q → (1 ≤ q) × (q ≡ newest_row rows key s)
-  newest_some puts lids q listed low whole is =
-      let row = put_stands rows key q is.put in
-      let first : 1 ≤ q = omega (arith, row.2, All-contains (λ (x : Post). 1 ≤ x.place.lid) rows row.0 h.first row.1) in
-      let up : q ≤ s = All-contains (λ (p : ℕ). p ≤ s) lids q low is.there in
-      let here : is_put_row key s row.0 ≡ true = and_from row.0.put (leb row.0.place.lid s && is_tagged key row.0) row.3 (and_from (leb row.0.place.lid s) (is_tagged key row.0) (le-leb row.0.place.lid s (omega (arith, row.2))) row.4) in
-      let least : q ≤ newest_row rows key s = omega (arith, row.2, All-contains (λ (y : Post). is_put_row key s y ≡ true → y.place.lid ≤ newest_from 0 rows key s) rows row.0 (newest_from-upper 0 rows key s) row.1 here) in
-      let most : newest_row rows key s ≤ q = elim (newest_from-reached 0 rows key s) [
+  -- the last update that is listed up to s is the newest
+  newest_some : (updates : List (List ℕ × List ℕ)) (lids : List ℕ) (post : Post) → AreUpdatesListed updates rows key → All (λ p. p ≤ s) lids → ((p : ℕ) → p ≤ s → IsListed updates key p → Contains lids p) → IsLastUpdate rows key lids post → post.place.lid ≡ newest_row rows key s
+  newest_some updates lids post listed low whole its =
+      let up : post.place.lid ≤ s = All-contains (λ (p : ℕ). p ≤ s) lids post.place.lid low its.there in
+      let here : is_update_row key s post ≡ true = and_from (is_update post.kind) (leb post.place.lid s && is_tagged key post) its.is.update (and_from (leb post.place.lid s) (is_tagged key post) (le-leb post.place.lid s up) its.is.tagged) in
+      let least : post.place.lid ≤ newest_row rows key s = All-contains (λ (y : Post). is_update_row key s y ≡ true → y.place.lid ≤ newest_from 0 rows key s) rows post (newest_from-upper 0 rows key s) its.is.row here in
+      let most : newest_row rows key s ≤ post.place.lid = elim (newest_from-reached 0 rows key s) [
         | inl none ↦ omega (arith, none)
         | inr at ↦
-            let outer = and_parts at.0.put (leb at.0.place.lid s && is_tagged key at.0) at.2 in
+            let outer = and_parts (is_update at.0.kind) (leb at.0.place.lid s && is_tagged key at.0) at.2 in
             let inner = and_parts (leb at.0.place.lid s) (is_tagged key at.0) outer.1 in
-            let there : IsListed puts key at.0.place.lid = All-contains (λ (y : Post). y.put ≡ true → is_tagged key y ≡ true → IsListed puts key y.place.lid) rows at.0 listed at.1 outer.0 inner.1 in
-            omega (arith, at.3, is.last at.0.place.lid (whole at.0.place.lid (leb-true at.0.place.lid s inner.0) there) (put_found rows at.0 key s h.rising at.1 at.2))
+            let there : IsListed updates key at.0.place.lid = All-contains (λ (y : Post). is_update y.kind ≡ true → is_tagged key y ≡ true → IsListed updates key y.place.lid) rows at.0 listed at.1 outer.0 inner.1 in
+            omega (arith, at.3, its.last at.0.place.lid (whole at.0.place.lid (leb-true at.0.place.lid s inner.0) there) (update_found rows at.0 key s h.rising at.1 at.2))
       ] in
-      (first, omega (arith, least, most))
+      omega (arith, least, most)
 
-  pub newest_none : (puts : List (List ℕ × List ℕ)) (lids : List ℕ) → ArePutsListed puts rows key → ((p : ℕ) → p ≤ s → IsListed puts key p → Contains lids p) → All (λ p. has_put_at rows key p ≡ false) lids → newest_row rows key s ≡ 0
-  newest_none puts lids listed whole none = elim (newest_from-reached 0 rows key s) [
+  newest_none : (updates : List (List ℕ × List ℕ)) (lids : List ℕ) → AreUpdatesListed updates rows key → ((p : ℕ) → p ≤ s → IsListed updates key p → Contains lids p) → All (λ p. has_update_at rows key p ≡ false) lids → newest_row rows key s ≡ 0
+  newest_none updates lids listed whole none = elim (newest_from-reached 0 rows key s) [
     | inl is ↦ is
     | inr at ↦
-        let outer = and_parts at.0.put (leb at.0.place.lid s && is_tagged key at.0) at.2 in
+        let outer = and_parts (is_update at.0.kind) (leb at.0.place.lid s && is_tagged key at.0) at.2 in
         let inner = and_parts (leb at.0.place.lid s) (is_tagged key at.0) outer.1 in
-        let there : IsListed puts key at.0.place.lid = All-contains (λ (y : Post). y.put ≡ true → is_tagged key y ≡ true → IsListed puts key y.place.lid) rows at.0 listed at.1 outer.0 inner.1 in
-        absurd (true≢false (sym (put_found rows at.0 key s h.rising at.1 at.2) ∙ All-contains (λ (p : ℕ). has_put_at rows key p ≡ false) lids at.0.place.lid none (whole at.0.place.lid (leb-true at.0.place.lid s inner.0) there)))
+        let there : IsListed updates key at.0.place.lid = All-contains (λ (y : Post). is_update y.kind ≡ true → is_tagged key y ≡ true → IsListed updates key y.place.lid) rows at.0 listed at.1 outer.0 inner.1 in
+        absurd (true≢false (sym (update_found rows at.0 key s h.rising at.1 at.2) ∙ All-contains (λ (p : ℕ). has_update_at rows key p ≡ false) lids at.0.place.lid none (whole at.0.place.lid (leb-true at.0.place.lid s inner.0) there)))
   ]
 
-  -- whichever is found
-  pub newest_of : (puts : List (List ℕ × List ℕ)) (lids : List ℕ) (o : Option ℕ) → ArePutsListed puts rows key → All (λ p. p ≤ s) lids → ((p : ℕ) → p ≤ s → IsListed puts key p → Contains lids p)
-      → MatchOption o (All (λ p. has_put_at rows key p ≡ false) lids) (IsLastPut rows key lids) → MatchOption o (newest_row rows key s ≡ 0) (λ p. (1 ≤ p) × (p ≡ newest_row rows key s))
-  newest_of puts lids None listed low whole none = newest_none puts lids listed whole none
-  newest_of puts lids (Some q) listed low whole is = newest_some puts lids q listed low whole is
+  -- what the last update that is listed tells is what the newest row tells, and nothing is told where none is listed
+  pub told_some : (updates : List (List ℕ × List ℕ)) (lids : List ℕ) (post : Post) → AreUpdatesListed updates rows key → All (λ p. p ≤ s) lids → ((p : ℕ) → p ≤ s → IsListed updates key p → Contains lids p) → IsLastUpdate rows key lids post
+      → told_by post.kind post.place ≡ told_row rows (newest_row rows key s)
+  told_some updates lids post listed low whole its = sym (told_of rows post h.rising its.is.row) ∙ ap (told_row rows) (newest_some updates lids post listed low whole its)
+
+  pub told_none : (updates : List (List ℕ × List ℕ)) (lids : List ℕ) → AreUpdatesListed updates rows key → ((p : ℕ) → p ≤ s → IsListed updates key p → Contains lids p) → All (λ p. has_update_at rows key p ≡ false) lids
+      → Absent ≡ told_row rows (newest_row rows key s)
+  told_none updates lids listed whole none = sym (ap (told_row rows) (newest_none updates lids listed whole none) ∙ told_first rows h.first)
 
   -- the row at a position shows its place, if it has the tag
   place_is : (p : ℕ) → option_map (λ (post : Post). post.place) (tagged_row rows key p) ≡ place_tagged_at rows key p

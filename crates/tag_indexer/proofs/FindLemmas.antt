@@ -1,12 +1,14 @@
 -- Rows in order: where one is put in, and which one stands at a position.
 use Rattle.std.proofs.Common.{◌≡◌, ◌≢◌, ℕ, zero, suc, ◌<◌, ◌≤◌, true, false, leb, ltb, eqb, List, [], ◌∷◌, length, get_or, refl, ap, sym, ◌∙◌, subst, Some, None, inl, inr, arith}
-use Rattle.std.specs.List.{AllWithin, insert, find}
+use Rattle.std.specs.List.{AllWithin, Contains, insert, find}
 use Rattle.std.proofs.lemmas.Bool.{cases_lt, cond-true, cond-false, eq-eqb, ne_eqb, lt-ltb, le-ltb, leb-true, leb-false}
+use Rattle.std.proofs.lemmas.List.Elements.{All-contains}
 use Rattle.std.proofs.lemmas.List.Sorted.{IsNonDecreasingBy-insert}
+use Rattle.causal_deps.proofs.Lists.{Contains-cons}
 use Rattle.tag_indexer.specs.declared.post.Post.{Post}
 use Rattle.tag_indexer.specs.Rows.{row_in}
 use Rattle.tag_indexer.specs.Indexers.{AreSorted}
-use Rattle.tag_indexer.proofs.RowLemmas.{AreRows}
+use Rattle.tag_indexer.proofs.RowLemmas.{AreRows, rows_parts}
 
 pub rows_sorted : (rows : List Post) → AreRows rows → AreSorted rows
 rows_sorted rows rise = λ i j d le within. elim (cases_lt i j) [
@@ -59,3 +61,15 @@ put_in_order rows xs new i x same is sorted few below above =
       is ∙ insert_is_row_in rows i x within low high,
       subst AreSorted (sym is) (IsNonDecreasingBy-insert (λ (y : Post). y.place.lid) rows i x sorted within (λ k d lt. low k d (omega arith) lt) (λ k d from lt. (let h = high k d from lt in omega (arith, h)))),
     )
+
+-- of rows that rise, the one at a position is the one that stands there
+pub find_row : (rows : List Post) (x : Post) → AreRows rows → Contains rows x → find (λ post. eqb post.place.lid x.place.lid) rows ≡ Some x
+find_row [] x rise has = absurd (omega (arith, has.1))
+find_row (y ∷ ys) x rise has = elim (Contains-cons y ys x has) [
+  | inl is ↦ cond-true (eqb y.place.lid x.place.lid) (Some y) (find (λ post. eqb post.place.lid x.place.lid) ys) (eq-eqb y.place.lid x.place.lid (ap (λ (z : Post). z.place.lid) is)) ∙ ap Some is
+  | inr later ↦
+      let parts = rows_parts y ys rise in
+      let above : y.place.lid < x.place.lid = All-contains (λ (z : Post). y.place.lid < z.place.lid) ys x parts.0 later in
+      cond-false (eqb y.place.lid x.place.lid) (Some y) (find (λ post. eqb post.place.lid x.place.lid) ys) (ne_eqb y.place.lid x.place.lid (λ same. absurd (omega arith)))
+      ∙ find_row ys x parts.1 later
+]

@@ -71,11 +71,11 @@ module _ (i : IndexerState) (e : EpochList) (m upto : ℕ) (rows : List Post) (k
   pub posted_log : (log : List Record) → IsIndexed log i → All (IsRowOf log) rows → IsIndexed log new
   posted_log log indexed of_log = posted_indexed i e m upto rows may.member may.prefix may.begun (apart_rising rows may.own.rising) own (λ p low. may.own.whole p) log indexed of_log
 
-  pub posted_listed : (puts tagged puts_new tagged_new : List (List ℕ × List ℕ)) → ListsAll puts puts_new → ListsAll tagged tagged_new → All (IsRowListed i.number i.indexers puts tagged) i.rows → All (IsRowListed i.number i.indexers puts_new tagged_new) rows
-      → All (IsRowListed i.number i.indexers puts_new tagged_new) new.rows
-  posted_listed puts tagged puts_new tagged_new more_puts more_tagged was came_listed =
-      let Q : Post → Type 0 = IsRowListed i.number i.indexers puts_new tagged_new in
-      All-rows_in Q i.rows (filter here rows) (All-weaker (IsRowListed i.number i.indexers puts tagged) Q (listed_more i.number i.indexers puts tagged puts_new tagged_new more_puts more_tagged) i.rows was)
+  pub posted_listed : (updates tagged updates_new tagged_new : List (List ℕ × List ℕ)) → ListsAll updates updates_new → ListsAll tagged tagged_new → All (IsRowListed i.number i.indexers updates tagged) i.rows → All (IsRowListed i.number i.indexers updates_new tagged_new) rows
+      → All (IsRowListed i.number i.indexers updates_new tagged_new) new.rows
+  posted_listed updates tagged updates_new tagged_new more_updates more_tagged was came_listed =
+      let Q : Post → Type 0 = IsRowListed i.number i.indexers updates_new tagged_new in
+      All-rows_in Q i.rows (filter here rows) (All-weaker (IsRowListed i.number i.indexers updates tagged) Q (listed_more i.number i.indexers updates tagged updates_new tagged_new more_updates more_tagged) i.rows was)
       (All-weaker (λ post. Q post × (here post ≡ true)) Q (λ post has. has.0) (filter here rows) (All-passed Q here rows came_listed))
 
 -- a true pair stays so
@@ -87,6 +87,6 @@ pub kept_same : (number indexers : ℕ) (e epochs : EpochList) (marks : List ℕ
 kept_same number indexers e epochs marks rows same epochs_are rows_are kept =
     subst (λ (x : EpochList). AreKept number indexers (record { epochs = x; marks = marks }) same) (sym epochs_are) (subst (λ (x : List Post). AreKept number indexers (record { epochs = e; marks = marks }) x) (sym rows_are) kept)
 
-pub listed_same : (number indexers : ℕ) (puts tagged puts_new tagged_new : List (List ℕ × List ℕ)) (rows same : List Post) → same ≡ rows → ListsAll puts puts_new → ListsAll tagged tagged_new → All (IsRowListed number indexers puts tagged) rows → All (IsRowListed number indexers puts_new tagged_new) same
-listed_same number indexers puts tagged puts_new tagged_new rows same is more_puts more_tagged was =
-    subst (All (IsRowListed number indexers puts_new tagged_new)) (sym is) (All-weaker (IsRowListed number indexers puts tagged) (IsRowListed number indexers puts_new tagged_new) (listed_more number indexers puts tagged puts_new tagged_new more_puts more_tagged) rows was)
+pub listed_same : (number indexers : ℕ) (updates tagged updates_new tagged_new : List (List ℕ × List ℕ)) (rows same : List Post) → same ≡ rows → ListsAll updates updates_new → ListsAll tagged tagged_new → All (IsRowListed number indexers updates tagged) rows → All (IsRowListed number indexers updates_new tagged_new) same
+listed_same number indexers updates tagged updates_new tagged_new rows same is more_updates more_tagged was =
+    subst (All (IsRowListed number indexers updates_new tagged_new)) (sym is) (All-weaker (IsRowListed number indexers updates tagged) (IsRowListed number indexers updates_new tagged_new) (listed_more number indexers updates tagged updates_new tagged_new more_updates more_tagged) rows was)

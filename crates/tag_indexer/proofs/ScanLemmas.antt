@@ -1,29 +1,10 @@
 -- Positions looked at from the last one on.
-use Rattle.std.proofs.Common.{◌≡◌, ℕ, ◌+◌, ◌-◌, ◌<◌, ◌≤◌, Bool, true, false, List, [], ◌∷◌, ◌++◌, length, get_or, take, drop, reverse, Option, ap, sym, ◌∙◌, inl, inr, arith}
-use Rattle.std.specs.List.{AllWithin, Contains, filter_map, cons_option}
-use Rattle.std.proofs.lemmas.List.{get_or_default, take_more, length-append, length-reverse, reverse-append, append_assoc}
+use Rattle.std.proofs.Common.{◌≡◌, ℕ, ◌+◌, ◌-◌, ◌<◌, ◌≤◌, List, [], ◌∷◌, ◌++◌, length, get_or, take, drop, reverse, Option, ap, sym, ◌∙◌, arith}
+use Rattle.std.specs.List.{filter_map, cons_option}
+use Rattle.std.proofs.lemmas.List.{take_more, length-append, length-reverse, reverse-append, append_assoc}
 use Rattle.std.proofs.lemmas.List.Elements.{filter_map-append}
-use Rattle.std.proofs.lemmas.Bool.{cases_lt, cases_eq, true≢false}
 use Rattle.std.proofs.Math.Seq.{drop-append_seam}
 use Rattle.abstract_log.specs.Answers.{last_of}
-use Rattle.tag_indexer.specs.TagIndexes.{AreLidsRising}
-
--- one more that fails
-pub scan_more : (test : ℕ → Bool) (lids : List ℕ) (at : ℕ) → 0 < at → at ≤ length lids → AllWithin (λ p. test p ≡ false) lids at (length lids) → test (get_or lids (at - 1) 0) ≡ false → AllWithin (λ p. test p ≡ false) lids (at - 1) (length lids)
-scan_more test lids at some few fails here = λ k d from within. elim (cases_eq k (at - 1)) [
-  | inl same ↦ ap test (get_or_default lids k d 0 within ∙ ap (λ n. get_or lids n 0) same) ∙ here
-  | inr other ↦ fails k d (omega (arith, other)) within
-]
-
--- where those behind it fail, none that passes is above it
-pub scan_last : (test : ℕ → Bool) (lids : List ℕ) (at p : ℕ) → AreLidsRising lids → 0 < at → at ≤ length lids → AllWithin (λ q. test q ≡ false) lids at (length lids) → Contains lids p → test p ≡ true → p ≤ get_or lids (at - 1) 0
-scan_last test lids at p rise some few fails has passes = elim (cases_lt has.0 at) [
-  | inr after ↦ absurd (true≢false (sym passes ∙ ap test (sym has.2) ∙ fails has.0 p after has.1))
-  | inl before ↦ elim (cases_eq has.0 (at - 1)) [
-    | inl same ↦ omega (arith, has.2, get_or_default lids has.0 p 0 has.1, ap (λ n. get_or lids n 0) same)
-    | inr other ↦ omega (arith, has.2, get_or_default lids has.0 p 0 has.1, rise has.0 (at - 1) 0 (omega (arith, other)) (omega arith))
-  ]
-]
 
 -- one more that gives something, or nothing
 pub split_more : {Y : Type 0} (f : ℕ → Option Y) (lids : List ℕ) (at : ℕ) (found : List Y) (y : Option Y) → 0 < at → at ≤ length lids → filter_map f lids ≡ filter_map f (take at lids) ++ reverse found → y ≡ f (get_or lids (at - 1) 0)

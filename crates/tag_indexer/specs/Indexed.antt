@@ -1,9 +1,7 @@
 -- What an indexer has of a log.
-use Rattle.std.specs.Prelude.{◌≡◌, ℕ, ◌-◌, ◌<◌, ◌≤◌, true, List, length, Option, Some, None, All, Contains, slice_get}
+use Rattle.std.specs.Prelude.{◌≡◌, ℕ, ◌-◌, ◌<◌, ◌≤◌, true, List, length, Some, All, Contains, slice_get}
 use Rattle.std.specs.List.{AllPairs}
 use Rattle.causal_deps.specs.declared.record.Record.{Record}
-use Rattle.causal_deps.specs.declared.answers.Newest.{Newest}
-use Rattle.causal_deps.specs.declared.answers.Newest.TheVariants.{Found, Absent}
 use Rattle.flstore_rounds.specs.Heads.{IsBelowMark}
 use Rattle.tag_indexer.specs.declared.post.Post.{Post}
 use Rattle.tag_indexer.specs.Rows.{has_home, post_of}
@@ -21,8 +19,3 @@ pub record IsIndexed (log : List Record) (i : IndexerState) : Type 0 where
   pub homes : All (λ post. has_home i.indexers i.number post.tags ≡ true) i.rows
   pub rising : AllPairs (λ a b. a.place.lid < b.place.lid) i.rows
   pub complete : (p : ℕ) (r : Record) → 1 ≤ p → IsBelowMark i.pair p → slice_get log (p - 1) ≡ Some r → has_home i.indexers i.number r.tags ≡ true → Contains i.rows (post_of p r)
-
--- what is found, as an answer
-abbrev pub found_in : Option ℕ → Newest
-found_in None = Absent
-found_in (Some p) = Found p

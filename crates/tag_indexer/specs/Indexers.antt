@@ -1,13 +1,13 @@
 -- Indexers: each has the rows of the records whose tags have their home there, up to a mark of each maintainer.
-use Rattle.std.specs.Prelude.{◌≡◌, ℕ, ◌<◌, ◌≤◌, ◌==◌, true, if◌then◌else◌, nat_lt, List, [], map, filter, length, All, Contains}
+use Rattle.std.specs.Prelude.{◌≡◌, ℕ, ◌<◌, ◌≤◌, ◌==◌, true, if◌then◌else◌, nat_lt, List, [], map, filter, length, Option, Some, None, All, Contains}
 use Rattle.std.specs.List.{AllPairs}
 use Rattle.std.specs.List.Sorted.{IsNonDecreasingBy}
 use Rattle.causal_deps.specs.declared.answers.Newest.{Newest}
-use Rattle.causal_deps.specs.declared.answers.Newest.TheVariants.{Behind, Found, Absent}
+use Rattle.causal_deps.specs.declared.answers.Newest.TheVariants.{Behind, Found, Deleted, Absent}
 use Rattle.flstore_rounds.specs.Epochs.{EpochList, owner, later_than}
 use Rattle.flstore_rounds.specs.Heads.{Pair, blank, head, mark_at, with_own, IsBelowMark}
 use Rattle.tag_indexer.specs.declared.post.Post.{Post}
-use Rattle.tag_indexer.specs.Rows.{has_home, newest_row, rows_in}
+use Rattle.tag_indexer.specs.Rows.{has_home, newest_row, rows_in, told_row}
 use Rattle.cz_base.specs.declared.limits.TheConstants.{MEMBERS}
 
 -- What contracts see of an indexer: its number, how many indexers there are, the epochs and the mark of each maintainer,
@@ -39,13 +39,22 @@ pub record AreOwnRows (e : EpochList) (m low top : ℕ) (rows : List Post) : Typ
   pub own : All (λ post. (low ≤ post.place.lid) × (post.place.lid < top) × (owner e post.place.lid ≡ m)) rows
   pub whole : (p : ℕ) → low ≤ p → p < top → owner e p ≡ m → Contains (map (λ post. post.place.lid) rows) p
 
--- the position as an answer, where 0 is none
-abbrev pub found_lid : ℕ → Newest
-found_lid p = if p == 0 then Absent else Found p
-
--- Newest: the last put of the key at or below s, unless less than s is covered
+-- Newest: the last update of the key at or below s, unless less than s is covered
 abbrev pub newest_found : IndexerState → List ℕ → ℕ → Newest
-newest_found i key s = if nat_lt (head i.pair) s then Behind (head i.pair) else found_lid (newest_row i.rows key s)
+newest_found i key s = if nat_lt (head i.pair) s then Behind (head i.pair) else told_row i.rows (newest_row i.rows key s)
+
+-- where the update stands that is told, if one is
+abbrev pub newest_lid : Newest → Option ℕ
+newest_lid (Behind covered) = None
+newest_lid (Found p) = Some p
+newest_lid (Deleted place) = Some place.lid
+newest_lid Absent = None
+
+-- where the last update of the key at or below s stands, if there is one and s is covered
+abbrev pub newest_position : IndexerState → List ℕ → ℕ → Option ℕ
+newest_position i key s =
+    let p = newest_row i.rows key s in
+    if nat_lt (head i.pair) s then None else if p == 0 then None else Some p
 
 -- positions do not fall along the rows
 abbrev pub AreSorted : List Post → Type 0

@@ -3,6 +3,7 @@ use Rattle.std.specs.Prelude.{◌≡◌, ℕ, ◌<◌, ◌≤◌, ◌==◌, ◌&
 use Rattle.std.specs.List.{AllPairs}
 use Rattle.std.specs.Option.{unwrap_or, option_map_or}
 use Rattle.causal_deps.specs.declared.record.Place.{Place}
+use Rattle.causal_deps.specs.Kinds.{is_update}
 use Rattle.std.specs.Map.{lookup}
 use Rattle.std.specs.Ordering.{nat_cmp, is_eq}
 use Rattle.std.specs.Cmp.Lexicographic.{slice_cmp}
@@ -32,32 +33,38 @@ IsTagIndex index = (tag : List ℕ) → AreLidsRising (lids_of index tag)
 abbrev pub ListsAll : List (List ℕ × List ℕ) → List (List ℕ × List ℕ) → Type 0
 ListsAll index more = (tag : List ℕ) (p : ℕ) → IsListed index tag p → IsListed more tag p
 
--- a put of the key stands at position p
-abbrev pub has_put_at : List Post → List ℕ → ℕ → Bool
-has_put_at rows key p = option_map_or (λ post. post.put && is_tagged key post) (find (λ post. post.place.lid == p) rows) false
+-- an update of the key stands at position p
+abbrev pub has_update_at : List Post → List ℕ → ℕ → Bool
+has_update_at rows key p = option_map_or (λ post. is_update post.kind && is_tagged key post) (find (λ post. post.place.lid == p) rows) false
 
 -- the place of the row at position p, if it has the tag
 abbrev pub place_tagged_at : List Post → List ℕ → ℕ → Option Place
 place_tagged_at rows tag p = option_map_or (λ post. if is_tagged tag post then Some post.place else None) (find (λ post. post.place.lid == p) rows) None
 
--- position q is the last of these at which a put of the key stands
-pub record IsLastPut (rows : List Post) (key lids : List ℕ) (q : ℕ) : Type 0 where
-  pub there : Contains lids q
-  pub put : has_put_at rows key q ≡ true
-  pub last : (p : ℕ) → Contains lids p → has_put_at rows key p ≡ true → p ≤ q
+-- the row is an update of the key
+pub record IsUpdate (rows : List Post) (key : List ℕ) (post : Post) : Type 0 where
+  pub row : Contains rows post
+  pub update : is_update post.kind ≡ true
+  pub tagged : is_tagged key post ≡ true
 
--- the row is listed under the tag, if that has its home here, and as a put if it is one
+-- the row is the last of those at these positions that are updates of the key
+pub record IsLastUpdate (rows : List Post) (key lids : List ℕ) (post : Post) : Type 0 where
+  pub is : IsUpdate rows key post
+  pub there : Contains lids post.place.lid
+  pub last : (p : ℕ) → Contains lids p → has_update_at rows key p ≡ true → p ≤ post.place.lid
+
+-- the row is listed under the tag, if that has its home here, and as an update if it is one
 abbrev pub IsListedUnder : ℕ → ℕ → List (List ℕ × List ℕ) → List (List ℕ × List ℕ) → Post → List ℕ → Type 0
-IsListedUnder number indexers puts tagged post tag = home tag indexers ≡ number → IsListed tagged tag post.place.lid × (post.put ≡ true → IsListed puts tag post.place.lid)
+IsListedUnder number indexers updates tagged post tag = home tag indexers ≡ number → IsListed tagged tag post.place.lid × (is_update post.kind ≡ true → IsListed updates tag post.place.lid)
 
 -- the row is listed under each of its tags that have their home here
-pub record IsRowListed (number indexers : ℕ) (puts tagged : List (List ℕ × List ℕ)) (post : Post) : Type 0 where
-  pub under : All (IsListedUnder number indexers puts tagged post) post.tags
+pub record IsRowListed (number indexers : ℕ) (updates tagged : List (List ℕ × List ℕ)) (post : Post) : Type 0 where
+  pub under : All (IsListedUnder number indexers updates tagged post) post.tags
 
 -- each row with the tag is listed under it
 abbrev pub AreTagsListed : List (List ℕ × List ℕ) → List Post → List ℕ → Type 0
 AreTagsListed index rows tag = All (λ post. is_tagged tag post ≡ true → IsListed index tag post.place.lid) rows
 
--- each put of the key is listed under it
-abbrev pub ArePutsListed : List (List ℕ × List ℕ) → List Post → List ℕ → Type 0
-ArePutsListed index rows key = All (λ post. post.put ≡ true → is_tagged key post ≡ true → IsListed index key post.place.lid) rows
+-- each update of the key is listed under it
+abbrev pub AreUpdatesListed : List (List ℕ × List ℕ) → List Post → List ℕ → Type 0
+AreUpdatesListed index rows key = All (λ post. is_update post.kind ≡ true → is_tagged key post ≡ true → IsListed index key post.place.lid) rows

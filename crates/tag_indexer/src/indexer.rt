@@ -4,15 +4,16 @@ ghost use Rattle.std.specs.Prelude.{◌≡◌, ℕ, ◌<◌, ◌≤◌, ◌⊎�
 ghost use Rattle.causal_deps.specs.declared.record.Record.{Record};
 ghost use Rattle.causal_deps.specs.declared.answers.Newest.{Newest as NewestValue};
 ghost use Rattle.abstract_log.specs.Answers.{last_of, newest, places_with};
+ghost use Rattle.abstract_log.specs.Updates.{told_place};
 ghost use Rattle.flstore_rounds.specs.Epochs.{EpochList, IsPrefix, longer};
 ghost use Rattle.flstore_rounds.specs.Heads.{IsHead, IsTrueMark, IsTrueOf, head, mark_at};
 ghost use Rattle.tag_indexer.specs.Rows.{home, tagged_places};
-ghost use Rattle.tag_indexer.specs.Indexers.{AreBegun, AreOwnRows, IndexerState, empty, newest_found, posted};
-ghost use Rattle.tag_indexer.specs.Indexed.{IsIndexed, IsRowOf, found_in};
+ghost use Rattle.tag_indexer.specs.Indexers.{AreBegun, AreOwnRows, IndexerState, empty, newest_found, newest_lid, newest_position, posted};
+ghost use Rattle.tag_indexer.specs.Indexed.{IsIndexed, IsRowOf};
 ghost use Rattle.cz_base.specs.declared.limits.TheConstants.{MEMBERS};
 
 use crate::Post;
-use crate::rows::{last_tagged, list_rows, newest_put, put_rows};
+use crate::rows::{last_tagged, list_rows, newest_update, put_rows};
 use crate::tag_index::TagIndex;
 use causal_deps::{LastFault, Newest, Place};
 use cz_base::limits::MEMBERS;
@@ -31,7 +32,7 @@ pub struct Indexer {
     marks: [Lid; MEMBERS],
     rows: Vec<Post>,
     /// Where the rows are found by a key, and by a tag.
-    puts: TagIndex,
+    updates: TagIndex,
     tagged: TagIndex,
 }
 
@@ -44,7 +45,7 @@ impl Model for Indexer {
 
     ghost view = { λ i. record { number = i.number; indexers = i.indexers; pair = record { epochs = i.epochs; marks = i.marks }; rows = i.rows.items } };
 
-    ghost invariant = { λ i. (1 ≤ i.indexers) × AreKept i.number i.indexers (record { epochs = i.epochs; marks = i.marks }) i.rows.items × All (IsRowListed i.number i.indexers i.puts i.tagged) i.rows.items };
+    ghost invariant = { λ i. (1 ≤ i.indexers) × AreKept i.number i.indexers (record { epochs = i.epochs; marks = i.marks }) i.rows.items × All (IsRowListed i.number i.indexers i.updates i.tagged) i.rows.items };
 }
 
 impl Indexer {
@@ -62,7 +63,7 @@ impl Indexer {
             epochs,
             marks: [1; MEMBERS],
             rows: Vec::new(alloc),
-            puts: TagIndex::new(alloc),
+            updates: TagIndex::new(alloc),
             tagged: TagIndex::new(alloc),
         }
     }
@@ -91,7 +92,7 @@ impl Indexer {
         ensures truth { OnOk result ((t : EpochList) (placed : ℕ → Bool) → IsTrueOf t placed self.old.pair → IsTrueMark t epochs.now (λ p. IsTrue (placed p)) m upto → IsTrueOf t placed self.new.pair) }
     {
         list_rows(
-            &mut self.puts,
+            &mut self.updates,
             &mut self.tagged,
             &rows,
             self.number,
@@ -127,23 +128,24 @@ impl Indexer {
         head_of(self.epochs.round(), self.epochs.list(), &self.marks)
     }
 
-    /// The last put of the key at or below s, unless less than s is covered.
+    /// The last update of the key at or below s, unless less than s is covered: where a put stands, or the place of a
+    /// del.
     pub fn newest(&self, key: &Name, s: Lid) -> Newest
         requires home { home key.now self.now.indexers ≡ self.now.number }
         ensures value { result ≡ newest_found self.now key.now s }
         ensures behind { (covered : ℕ) → (result ≡ Newest.Behind covered) ↔ ((covered ≡ head self.now.pair) × (covered < s)) }
 
-        // Where it is not behind, it is what the log itself has, for each log whose rows were posted.
-        ensures log { (log : List Record) → IsIndexed log self.now → s ≤ length log → s ≤ head self.now.pair → result ≡ found_in (newest log key.now s) }
+        // Where the update stands that is told, for those that ask no more.
+        ensures position { newest_lid result ≡ newest_position self.now key.now s }
+
+        // Where it is not behind, it is what the log itself tells, for each log whose rows were posted.
+        ensures log { (log : List Record) → IsIndexed log self.now → s ≤ length log → s ≤ head self.now.pair → result ≡ told_place log (newest log key.now s) }
     {
         let covered = self.covered();
         if covered < s {
             return Newest::Behind { covered };
         }
-        match newest_put(&self.rows, &self.puts, key, s) {
-            Some(lid) => Newest::Found { lid },
-            None => Newest::Absent,
-        }
+        newest_update(&self.rows, &self.updates, key, s)
     }
 
     /// The places at or below s of the last `count` records with the tag, in rising order, unless less than s is

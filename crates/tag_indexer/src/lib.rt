@@ -1,9 +1,9 @@
 //! Indexers of one datacentre's log: each looks up the tags that have their home there.
 //!
 //! Model: an [`Indexer`] is seen as an epoch list, a mark of each maintainer and a list of rows by rising position:
-//! which tags a record has, and whether it is a put.
+//! which tags a record has, and of which kind it is.
 //!
-//! To the layers above: the newest put of a key and the last records with a tag, at a position that the indexer covers,
+//! To the layers above: what the newest update of a key tells and the last records with a tag, at a position that the indexer covers,
 //! are those of every log of which it has the rows, and it goes on having them where rows are posted and where the log
 //! grows.
 //!

@@ -1,18 +1,19 @@
 //! Posts: what an indexer gets of a record, and where a tag is looked up.
 
 ghost use Rattle.std.specs.Prelude.{◌≡◌, ◌<◌, ◌≤◌, bytes_eq};
+ghost use Rattle.abstract_log.specs.Updates.{told_by};
 ghost use Rattle.tag_indexer.specs.Rows.{home, is_tagged};
 
-use causal_deps::Place;
+use causal_deps::{Kind, Newest, Place};
 use cz_base::{Name, Seq};
 
-/// What an indexer gets of a record: where it stands, whether it is a put, and its tags.
+/// What an indexer gets of a record: where it stands, its kind, and its tags.
 #[derive(Debug, Drop)]
 pub struct Post {
     /// Where the record stands, and its name.
     pub place: Place,
-    /// Whether it is a put, whose one tag is its key.
-    pub put: bool,
+    /// An append, or a put or a del, whose one tag is its key.
+    pub kind: Kind,
     /// Its tags, or its key.
     pub tags: Seq<Name>,
 }
@@ -37,6 +38,19 @@ impl Post {
         ensures { result ≡ is_tagged tag.now self.now }
     {
         self.tags.as_slice().iter().any(|name| same_name(name, tag))
+    }
+
+    /// What the record tells of its key: a put where it stands, a del that there is no value.
+    pub(crate) fn told(&self) -> Newest
+        ensures { result ≡ told_by self.now.kind self.now.place }
+    {
+        match self.kind {
+            Kind::Append => Newest::Absent,
+            Kind::Put => Newest::Found {
+                lid: self.place.lid,
+            },
+            Kind::Del => Newest::Deleted { place: self.place },
+        }
     }
 }
 

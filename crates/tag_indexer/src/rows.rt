@@ -3,58 +3,58 @@ ghost use Rattle.std.specs.Prelude.{◌≡◌, ℕ, ◌+◌, ◌-◌, ◌<◌, �
 ghost use Rattle.std.specs.Option.{option_copied};
 ghost use Rattle.std.specs.List.{filter_map};
 ghost use Rattle.abstract_log.specs.Answers.{last_of};
-ghost use Rattle.tag_indexer.specs.Rows.{has_home, newest_row, row_in, rows_in, tagged_places};
-ghost use Rattle.tag_indexer.specs.TagIndexes.{AreLidsRising, ArePutsListed, AreTagsListed, IsLastPut, IsListedUnder, IsRowListed, ListsAll, has_put_at, place_tagged_at};
+ghost use Rattle.tag_indexer.specs.Rows.{has_home, newest_row, row_in, rows_in, tagged_places, told_row};
+ghost use Rattle.tag_indexer.specs.TagIndexes.{AreLidsRising, AreTagsListed, AreUpdatesListed, IsLastUpdate, IsListedUnder, IsRowListed, IsUpdate, ListsAll, has_update_at, place_tagged_at};
 ghost use Rattle.tag_indexer.specs.Indexers.{AreInOrder, AreSorted};
 
 use crate::tag_index::TagIndex;
 use crate::{Post, home};
-use causal_deps::Place;
+use causal_deps::{Newest, Place};
 use cz_base::{Lid, Name, NoMemory, Seq};
 use std::alloc::Global;
 
-/// Lists the rows under their tags that have their home at that indexer, and puts also among the puts. What is
+/// Lists the rows under their tags that have their home at that indexer, and updates also among the updates. What is
 /// listed stays so, also where no memory is left.
 pub(crate) fn list_rows(
-    puts: &mut TagIndex,
+    updates: &mut TagIndex,
     tagged: &mut TagIndex,
     rows: &Seq<Post>,
     number: u32,
     indexers: u32,
 ) -> Result<(), NoMemory>
     requires { 1 ≤ indexers }
-    ensures listed { OnOk result (All (IsRowListed number indexers puts.new tagged.new) rows.now) }
-    ensures puts { ListsAll puts.old puts.new }
+    ensures listed { OnOk result (All (IsRowListed number indexers updates.new tagged.new) rows.now) }
+    ensures updates { ListsAll updates.old updates.new }
     ensures tagged { ListsAll tagged.old tagged.new }
 {
     for row in rows.as_slice() {
-        list_row(puts, tagged, row, number, indexers)?;
+        list_row(updates, tagged, row, number, indexers)?;
     }
     Ok(())
 }
 
 // Lists one row.
 fn list_row(
-    puts: &mut TagIndex,
+    updates: &mut TagIndex,
     tagged: &mut TagIndex,
     row: &Post,
     number: u32,
     indexers: u32,
 ) -> Result<(), NoMemory>
     requires { 1 ≤ indexers }
-    ensures listed { OnOk result (IsRowListed number indexers puts.new tagged.new row.now) }
-    ensures puts { ListsAll puts.old puts.new }
+    ensures listed { OnOk result (IsRowListed number indexers updates.new tagged.new row.now) }
+    ensures updates { ListsAll updates.old updates.new }
     ensures tagged { ListsAll tagged.old tagged.new }
 {
     for tag in row.tags.as_slice() {
-        list_under(puts, tagged, tag, row, number, indexers)?;
+        list_under(updates, tagged, tag, row, number, indexers)?;
     }
     Ok(())
 }
 
 // Lists a row under one tag, if that has its home at the indexer.
 fn list_under(
-    puts: &mut TagIndex,
+    updates: &mut TagIndex,
     tagged: &mut TagIndex,
     tag: &Name,
     row: &Post,
@@ -62,16 +62,16 @@ fn list_under(
     indexers: u32,
 ) -> Result<(), NoMemory>
     requires { 1 ≤ indexers }
-    ensures listed { OnOk result (IsListedUnder number indexers puts.new tagged.new row.now tag.now) }
-    ensures puts { ListsAll puts.old puts.new }
+    ensures listed { OnOk result (IsListedUnder number indexers updates.new tagged.new row.now tag.now) }
+    ensures updates { ListsAll updates.old updates.new }
     ensures tagged { ListsAll tagged.old tagged.new }
 {
     if home(tag, indexers) != number {
         return Ok(());
     }
     tagged.add(tag, row.place.lid)?;
-    if row.put {
-        puts.add(tag, row.place.lid)?;
+    if row.kind.is_update() {
+        updates.add(tag, row.place.lid)?;
     }
     Ok(())
 }
@@ -133,13 +133,16 @@ fn row_at(rows: &[Post], lid: Lid) -> Option<&Post>
     }
 }
 
-/// The last put of the key at or below s.
-pub(crate) fn newest_put(rows: &[Post], puts: &TagIndex, key: &Name, s: Lid) -> Option<Lid>
+/// What is told of the last update of the key at or below s.
+pub(crate) fn newest_update(rows: &[Post], updates: &TagIndex, key: &Name, s: Lid) -> Newest
     requires order { AreInOrder rows.now }
-    requires listed { ArePutsListed puts.now rows.now key.now }
-    ensures { MatchOption result (newest_row rows.now key.now s ≡ 0) (λ p. (1 ≤ p) × (p ≡ newest_row rows.now key.now s)) }
+    requires listed { AreUpdatesListed updates.now rows.now key.now }
+    ensures { result ≡ told_row rows.now (newest_row rows.now key.now s) }
 {
-    last_put(rows, puts.up_to(key, s), key)
+    match last_update(rows, updates.up_to(key, s), key) {
+        Some(row) => row.told(),
+        None => Newest::Absent,
+    }
 }
 
 /// The places at or below s of the last `count` rows with the tag, in order.
@@ -158,28 +161,28 @@ pub(crate) fn last_tagged(
     last_places(alloc, rows, tagged.up_to(tag, s), tag, count)
 }
 
-// Whether a put of the key stands at a position.
-fn has_put(rows: &[Post], lid: Lid, key: &Name) -> bool
+// The row at a position, if it is an update of the key.
+fn update_at<'a>(rows: &'a [Post], lid: Lid, key: &Name) -> Option<&'a Post>
     requires { AreSorted rows.now }
-    ensures { result ≡ has_put_at rows.now key.now lid }
+    ensures { MatchOption (option_copied result) (has_update_at rows.now key.now lid ≡ false) (λ row. IsUpdate rows.now key.now row × (row.place.lid ≡ lid)) }
 {
     match row_at(rows, lid) {
-        Some(row) => row.put && row.has_tag(key),
-        None => false,
+        Some(row) if row.kind.is_update() && row.has_tag(key) => Some(row),
+        _ => None,
     }
 }
 
-// The last of these positions, which rise, at which a put of the key stands.
-fn last_put(rows: &[Post], lids: &[Lid], key: &Name) -> Option<Lid>
+// The last row at these positions, which rise, that is an update of the key.
+fn last_update<'a>(rows: &'a [Post], lids: &[Lid], key: &Name) -> Option<&'a Post>
     requires sorted { AreSorted rows.now }
     requires rising { AreLidsRising lids.now }
-    ensures { MatchOption result (All (λ p. has_put_at rows.now key.now p ≡ false) lids.now) (IsLastPut rows.now key.now lids.now) }
+    ensures { MatchOption (option_copied result) (All (λ p. has_update_at rows.now key.now p ≡ false) lids.now) (IsLastUpdate rows.now key.now lids.now) }
 {
     let mut at = lids.len();
     while at > 0 {
         at -= 1;
-        if has_put(rows, lids[at], key) {
-            return Some(lids[at]);
+        if let Some(row) = update_at(rows, lids[at], key) {
+            return Some(row);
         }
     }
     None

@@ -15,9 +15,9 @@ two zero n below = refl
 two (suc zero) n below = refl
 two (suc (suc h)) n below = absurd (omega arith)
 
-pub numbered_fits : (r : Record) → r.host < 2 → 1 ≤ r.toid → r.toid < 2 ^ 32 → r.session ≡ 0 → r.index ≡ 1 → r.kind ≡ Append → r.tags ≡ []
+pub numbered_fits : (r : Record) → r.host < 2 → 1 ≤ r.toid → r.toid < 2 ^ 32 → r.session ≡ 0 → r.index ≡ 1 → r.kind ≡ Append → r.tags ≡ [] → r.body ≡ []
     → r.dep ≡ set (0 ∷ 0 ∷ []) r.host (r.toid - 1) → FitsRecord 2 r
-numbered_fits r host first toid session index kind tags dep =
+numbered_fits r host first toid session index kind tags body dep =
     let P : List ℕ → Type 0 = λ xs. All (λ n. n < 2 ^ 48) xs in
     record {
       host = host;
@@ -31,6 +31,7 @@ numbered_fits r host first toid session index kind tags dep =
       own = ap (λ xs. get_or xs r.host 0) dep ∙ get_or-set_same (0 ∷ 0 ∷ []) r.host (r.toid - 1) 0 host;
       tags_first = rw kind (omega arith);
       tags = rw kind (omega (arith, ap length tags));
+      body = rw kind (omega (arith, ap length body));
     }
 
 pub pushed : (xs ys : List Record) (r : Record) → All (λ r. FitsRecord 2 r) xs → FitsRecord 2 r → ys ≡ xs ++ r ∷ [] → All (λ r. FitsRecord 2 r) ys

@@ -86,7 +86,7 @@ fn numbered(alloc: Global, host: DcId, toid: u32) -> Result<Record, Fail>
         index: 1,
         kind: Kind::Append,
         tags: Seq::new(alloc),
-        body: Body::read(alloc, b"hi")?,
+        body: Body::empty(alloc),
         dep,
     })
 }

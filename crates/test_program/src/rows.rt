@@ -226,13 +226,52 @@ const LOST: &[u8] = b"\
     lose A B 1\n\
     end\n";
 
+// A key is deleted, and a get after that finds the del.
+const DELETED: &[u8] = b"\
+    chariots 1\n\
+    datacentres 1\n\
+    round 1\n\
+    session A\n\
+    put x =1\n\
+    get x\n\
+    del x\n\
+    get x\n\
+    steps\n\
+    end\n";
+
+// The put and the del that replaces it are both collected, and the key stays deleted.
+const DELETED_AND_COLLECTED: &[u8] = b"\
+    chariots 1\n\
+    datacentres 1\n\
+    round 1\n\
+    session A\n\
+    put x =1\n\
+    del x\n\
+    get x\n\
+    steps\n\
+    client 0\n\
+    flush A 0\n\
+    pass A 0 0\n\
+    stamp A 0\n\
+    client 0\n\
+    flush A 0\n\
+    pass A 0 0\n\
+    stamp A 0\n\
+    place A 0 0\n\
+    gossip A 0 0\n\
+    post A 0 0\n\
+    learn A\n\
+    floor A 2\n\
+    collect A 0\n\
+    end\n";
+
 // A script, and the report of its run.
 struct Row {
     script: &'static [u8],
     report: &'static [u8],
 }
 
-const ROWS: [Row; 9] = [
+const ROWS: [Row; 11] = [
     Row {
         script: ACROSS,
         report: b"log A 2\n1 A:1 put 0 1 0,0,0 =1 x\n2 B:1 put 1 2 1,0,0 =2 y\nlog B 2\n1 A:1 put 0 1 0,0,0 =1 x\n2 B:1 put 1 2 1,0,0 =2 y\nlog C 2\n1 A:1 put 0 1 0,0,0 =1 x\n2 B:1 put 1 2 1,0,0 =2 y\nreplies\n0 1 written 1 A:1\n1 1 at 1 found 1 A:1 =1\n1 2 written 2 B:1\nend\n",
@@ -268,6 +307,14 @@ const ROWS: [Row; 9] = [
     Row {
         script: LOST,
         report: b"log A 1\n1 A:1 put 0 1 0,0 =1 x\nlog B 1\n1 A:1 put 0 1 0,0 =1 x\nreplies\n0 1 written 1 A:1\nend\n",
+    },
+    Row {
+        script: DELETED,
+        report: b"log A 2\n1 A:1 put 0 1 0 =1 x\n2 A:2 del 0 3 1 = x\nreplies\n0 1 written 1 A:1\n0 2 at 1 found 1 A:1 =1\n0 3 written 2 A:2\n0 4 at 2 deleted 2 A:2\nend\n",
+    },
+    Row {
+        script: DELETED_AND_COLLECTED,
+        report: b"log A 2\n1 A:1 gone\n2 A:2 gone\nreplies\n0 1 written 1 A:1\n0 2 written 2 A:2\n0 3 at 2 deleted 2 A:2\nend\n",
     },
 ];
 

@@ -56,6 +56,7 @@ fn sizes_and_sessions_are_refused(rt: HostRuntime) -> Result<(), Fail> {
         ("", Cause::TooShort),
         ("session B\n", Cause::BadDatacentre),
         ("get x\n", Cause::OutOfPlace),
+        ("del x\n", Cause::OutOfPlace),
         ("client 0\n", Cause::OutOfPlace),
         ("fly\n", Cause::UnknownWord),
         ("stages A 17 1 1 1 1 1 1\n", Cause::OutOfRange),
@@ -92,6 +93,10 @@ fn writes_are_refused(rt: HostRuntime) -> Result<(), Fail> {
         ("put key\n", Cause::WrongWords),
         ("put a/b body\n", Cause::BadName),
         ("put key body\n", Cause::BadBody),
+        ("del\n", Cause::WrongWords),
+        ("del a b\n", Cause::WrongWords),
+        ("del key =body\n", Cause::WrongWords),
+        ("del a/b\n", Cause::BadName),
     ];
     refuses(&rt, rt.alloc(), ONE_SESSION, 5, &rows)
 }

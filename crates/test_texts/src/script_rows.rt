@@ -124,6 +124,40 @@ fn look_ups_are_read(rt: HostRuntime) -> Result<(), Fail> {
     Ok(())
 }
 
+const DELETED: &[u8] = b"\
+chariots 1
+datacentres 1
+round 1
+session A
+put x =1
+get x
+del x
+get x
+steps
+end
+";
+
+// Whether a command deletes the key.
+fn deletes(command: &Command, key: &[u8]) -> bool {
+    match command {
+        Command::Del { key: deleted } => deleted.as_bytes() == key,
+        _ => false,
+    }
+}
+
+#[test]
+fn a_del_is_read(rt: HostRuntime) -> Result<(), Fail> {
+    let script = read_script(rt.alloc(), DELETED)?;
+    let mut deleted = Vec::new(rt.alloc());
+    for plan in &script.workload.sessions {
+        for command in &plan.commands {
+            deleted.push(deletes(command, b"x"))?;
+        }
+    }
+    assert_eq!(rt; deleted.as_slice(), [false, false, true, false].as_slice());
+    Ok(())
+}
+
 // The lines of 64 sessions, and then some text.
 fn after_64_sessions(alloc: Global, text: &[u8]) -> Result<Vec<u8>, Fail> {
     let mut script = Vec::from_slice(alloc, ONE_DATACENTRE.as_bytes())?;

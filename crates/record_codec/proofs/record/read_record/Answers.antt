@@ -1,6 +1,6 @@
 use Rattle.std.proofs.Common.{◌-◌, arith, refl}
 use Rattle.record_codec.proofs.Places.{exits}
-use Rattle.record_codec.proofs.Records.{body_fails, dep_fails, head_fails, record_of_parts, tags_as, tags_fails}
+use Rattle.record_codec.proofs.Records.{body_as, body_fails, dep_fails, head_fails, record_of_parts, tags_as, tags_fails}
 use Rattle.record_codec.proofs.record.read_record.Goals as goal
 
 pub returns-in_err-host-clause-fault : goal.returns-in_err-host-clause-fault
@@ -21,9 +21,9 @@ returns-in_err-tags-clause-fault c =
 pub returns-in_err-body-clause-fault : goal.returns-in_err-body-clause-fault
 returns-in_err-body-clause-fault c =
     exits c.from_residual-in_err-body.result _ c.from_residual-in_err-body.ensures.1 c.in_err-body.ensures.fault
-    (body_fails _ _ _ _ _ (record { host = c.number.result; count = c.in_ok-host.field-0.toid - 1 }) _ _ _ (omega arith) c.requires.hosts c.number.ensures.value refl
+    (body_fails _ _ _ _ _ _ (record { host = c.number.result; count = c.in_ok-host.field-0.toid - 1 }) _ _ _ (omega arith) c.requires.hosts c.number.ensures.value refl
     c.in_ok-host.ensures.ok c.in_ok-host.ensures.took c.in_ok-dep.ensures.ok c.in_ok-dep.ensures.took c.fewest.ensures c.most.ensures
-    c.in_ok-tags.ensures.ok c.in_ok-tags.ensures.took)
+    c.in_ok-tags.ensures.ok c.in_ok-tags.ensures.took c.longest.ensures.value)
 
 pub returns-clause-ok : goal.returns-clause-ok
 returns-clause-ok c =
@@ -33,5 +33,5 @@ returns-clause-ok c =
       own_count = refl;
       dep = c.in_ok-dep.ensures.ok;
       tags = tags_as _ _ _ _ _ c.fewest.ensures c.most.ensures c.in_ok-tags.ensures.ok;
-      body = c.in_ok-body.ensures.ok;
+      body = body_as _ _ _ c.longest.ensures.value c.in_ok-body.ensures.ok;
     })

@@ -10,6 +10,10 @@ pub returns-in-Some-Put-clause-ok : goal.returns-in-Some-Put-clause-ok
 returns-in-Some-Put-clause-ok g c = λ log shows found.
     taken_write log (g.V.Shelf.held c.args.shelf.now) c.args.self.now c.write-in-Some-Put.new.self _ c.write-in-Some-Put.result (sym c.in-Some-Put.ensures.value) (with_write log (g.V.Shelf.held c.args.shelf.now) c.args.self.now _ _ c.in-Some-Put.field-0-is refl) (c.write-in-Some-Put.ensures.ok _ (sym c.in-Some-Put.ensures.value))
 
+pub returns-in-Some-Del-clause-ok : goal.returns-in-Some-Del-clause-ok
+returns-in-Some-Del-clause-ok g c = λ log shows found.
+    taken_write log (g.V.Shelf.held c.args.shelf.now) c.args.self.now c.write-in-Some-Del.new.self _ c.write-in-Some-Del.result (sym c.in-Some-Del.ensures.value) (with_write log (g.V.Shelf.held c.args.shelf.now) c.args.self.now _ _ c.in-Some-Del.field-0-is refl) (c.write-in-Some-Del.ensures.ok _ (sym c.in-Some-Del.ensures.value))
+
 pub returns-in-Some-Get-clause-ok : goal.returns-in-Some-Get-clause-ok
 returns-in-Some-Get-clause-ok g c = λ log shows found.
     taken_look log (g.V.Shelf.held c.args.shelf.now) (g.V.Shelf.held c.look.new.shelf) c.args.self.now c.look.new.self _ c.look.result (sym c.in-Some-Get.ensures.value) (with_look log (g.V.Shelf.held c.args.shelf.now) c.args.self.now _ _ c.in-Some-Get.field-0-is refl) (c.look.ensures.ok log _ shows found (sym c.in-Some-Get.ensures.value))

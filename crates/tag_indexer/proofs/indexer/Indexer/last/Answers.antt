@@ -12,7 +12,7 @@ use Rattle.tag_indexer.proofs.indexer.Indexer.last.Goals as goal
 pub last_tagged-requires-clause-listed : goal.last_tagged-requires-clause-listed
 last_tagged-requires-clause-listed c =
     subst (λ rows. AreTagsListed c.self.inside.tagged rows c.args.tag.now) (sym c.deref.ensures.value)
-    (tags_listed c.self.inside.number c.self.inside.indexers c.self.inside.puts c.self.inside.tagged c.self.inside.rows.items c.args.tag.now (subst (λ (i : IndexerState). home c.args.tag.now i.indexers ≡ i.number) (sym c.self.view_is) c.requires.home) c.self.invariant.2)
+    (tags_listed c.self.inside.number c.self.inside.indexers c.self.inside.updates c.self.inside.tagged c.self.inside.rows.items c.args.tag.now (subst (λ (i : IndexerState). home c.args.tag.now i.indexers ≡ i.number) (sym c.self.view_is) c.requires.home) c.self.invariant.2)
 
 pub returns-in-Ok-clause-log : goal.returns-in-Ok-clause-log
 returns-in-Ok-clause-log c = λ log indexed within.

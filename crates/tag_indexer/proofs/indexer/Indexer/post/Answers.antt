@@ -12,14 +12,14 @@ use Rattle.tag_indexer.proofs.indexer.Indexer.post.Goals as goal
 pub invariant_of-self : goal.invariant_of-self
 invariant_of-self c =
     let i = c.self.inside in
-    (c.self.invariant.0, c.self.invariant.1, listed_same i.number i.indexers i.puts i.tagged c.list_rows.new.puts c.list_rows.new.tagged i.rows.items i.rows.items refl c.list_rows.ensures.puts c.list_rows.ensures.tagged c.self.invariant.2)
+    (c.self.invariant.0, c.self.invariant.1, listed_same i.number i.indexers i.updates i.tagged c.list_rows.new.updates c.list_rows.new.tagged i.rows.items i.rows.items refl c.list_rows.ensures.updates c.list_rows.ensures.tagged c.self.invariant.2)
 
 pub invariant_of-self-in_err-reserve : goal.invariant_of-self-in_err-reserve
 invariant_of-self-in_err-reserve c =
     let i = c.self.inside in (
       c.self.invariant.0,
       kept_same i.number i.indexers i.epochs i.epochs i.marks i.rows.items c.reserve.new.self.items refl c.reserve.ensures.items c.self.invariant.1,
-      listed_same i.number i.indexers i.puts i.tagged c.list_rows.new.puts c.list_rows.new.tagged i.rows.items c.reserve.new.self.items c.reserve.ensures.items c.list_rows.ensures.puts c.list_rows.ensures.tagged c.self.invariant.2,
+      listed_same i.number i.indexers i.updates i.tagged c.list_rows.new.updates c.list_rows.new.tagged i.rows.items c.reserve.new.self.items c.reserve.ensures.items c.list_rows.ensures.updates c.list_rows.ensures.tagged c.self.invariant.2,
     )
 
 pub invariant_of-self-in_err-take_longer : goal.invariant_of-self-in_err-take_longer
@@ -27,7 +27,7 @@ invariant_of-self-in_err-take_longer c =
     let i = c.self.inside in (
       c.self.invariant.0,
       kept_same i.number i.indexers i.epochs c.take_longer.new.self i.marks i.rows.items c.reserve.new.self.items c.in_err-take_longer.ensures.err c.reserve.ensures.items c.self.invariant.1,
-      listed_same i.number i.indexers i.puts i.tagged c.list_rows.new.puts c.list_rows.new.tagged i.rows.items c.reserve.new.self.items c.reserve.ensures.items c.list_rows.ensures.puts c.list_rows.ensures.tagged c.self.invariant.2,
+      listed_same i.number i.indexers i.updates i.tagged c.list_rows.new.updates c.list_rows.new.tagged i.rows.items c.reserve.new.self.items c.reserve.ensures.items c.list_rows.ensures.updates c.list_rows.ensures.tagged c.self.invariant.2,
     )
 
 pub invariant_of-self-2 : goal.invariant_of-self-2
@@ -40,8 +40,8 @@ invariant_of-self-2 c =
     (c.put_rows.ensures ∙ ap (λ (rows : List Post). rows_in rows (filter (λ post. has_home f.indexers f.number post.tags) c.args.rows)) c.reserve.ensures.items) in (
       c.self.invariant.0,
       subst (λ (x : IndexerState). AreKept x.number x.indexers x.pair x.rows) (sym is) (posted_kept i c.args.epochs.now c.args.m c.args.upto c.args.rows c.self.invariant.1 may),
-      subst (λ (x : IndexerState). All (IsRowListed x.number x.indexers c.list_rows.new.puts c.list_rows.new.tagged) x.rows) (sym is)
-          (posted_listed i c.args.epochs.now c.args.m c.args.upto c.args.rows c.self.invariant.1 may f.puts f.tagged c.list_rows.new.puts c.list_rows.new.tagged c.list_rows.ensures.puts c.list_rows.ensures.tagged c.self.invariant.2 c.in_ok-list_rows.ensures.listed),
+      subst (λ (x : IndexerState). All (IsRowListed x.number x.indexers c.list_rows.new.updates c.list_rows.new.tagged) x.rows) (sym is)
+          (posted_listed i c.args.epochs.now c.args.m c.args.upto c.args.rows c.self.invariant.1 may f.updates f.tagged c.list_rows.new.updates c.list_rows.new.tagged c.list_rows.ensures.updates c.list_rows.ensures.tagged c.self.invariant.2 c.in_ok-list_rows.ensures.listed),
     )
 
 pub returns-clause-log : goal.returns-clause-log
