@@ -1,32 +1,45 @@
 -- What each kind of step does to the part of the rule on the words of marks and epochs.
-use Rattle.std.proofs.Common.{◌≡◌, ◌≢◌, ℕ, zero, suc, ◌+◌, ◌-◌, ◌/◌, ◌<◌, ◌≤◌, ◌⊎◌, inl, inr, max, List, [], ◌∷◌, ◌++◌, set, get_or, length, replicate, refl, ap, sym, ◌∙◌, subst, ⊎_elim, arith, get_or-set_other, get_or-set_same}
+use Rattle.std.proofs.Common.{◌≡◌, ◌≢◌, ℕ, zero, suc, ◌+◌, ◌-◌, ◌/◌, ◌<◌, ◌≤◌, ◌⊎◌, inl, inr, cond, nat_le, nat_eq, true, max, List, [], ◌∷◌, ◌++◌, set, get_or, length, replicate, refl, ap, sym, ◌∙◌, subst, ⊎_elim, arith, get_or-set_other, get_or-set_same}
 use Rattle.std.proofs.lemmas.Bool.Decides.{nat_tests}
 use mathlib.Core.Logic.{dite}
 use mathlib.Core.Option.{some, some-injective}
 use mathlib.Core.List.{IsPrefix}
-use native.Mathlib.Decide.{ℕ_discrete}
+use native.Mathlib.Decide.{ℕ_discrete, dec_le}
+use Rattle.std.proofs.lemmas.List.{get_or_past}
 use lib.ListN.{get_elem?}
 use Rattle.atomic_table.proofs.Lists.{at_set, set_else, at_snoc}
 use Rattle.abstract_log.specs.declared.event.Event.{Event}
 use Rattle.journal_lock.specs.declared.duty.Duty.{Duty}
 use Rattle.journal_lock.specs.declared.duty.Duty.TheVariants.{Token, Maintainer}
 use Rattle.journal_lock.specs.declared.law.Note.{Note}
-use Rattle.journal_lock.specs.declared.law.Note.TheVariants.{Met, Length, Found, Ended}
+use Rattle.journal_lock.specs.declared.law.Note.TheVariants.{Met, Length, Found, Ended, Told}
 use Rattle.journal_lock.specs.Duties.{number, datacentre, has, minus, stamped, Among}
-use Rattle.journal_lock.specs.Words.{mark_word, epoch_word, guard}
+use Rattle.journal_lock.specs.Words.{mark_word, epoch_word, dc_of, guard}
 use Rattle.journal_lock.specs.Notes.{IsTrue, AllTrue}
 use Rattle.journal_lock.specs.Names.{lengths_of}
 use Rattle.journal_lock.specs.Finds.{said, best, floor, ended, IsLater, read_notes, Stands, AllStand, Finding, FitsWords, Worded}
+use Rattle.journal_lock.proofs.EachNotes.{all_append}
 use Rattle.journal_lock.proofs.Lists.{stamped_prefix, has_append, has_minus}
 
 abbrev pub at_word : List ℕ → ℕ → ℕ
 at_word words w = get_or words w 0
+
+-- what marks of datacentre d that were told say of a word
+abbrev pub said_by : ℕ → ℕ → List ℕ → ℕ
+said_by d w marks = cond (nat_le (mark_word d 0) w) (get_or marks (w - mark_word d 0) 0) 0
 
 pub guard_mark : (d m : ℕ) → d < 8 → m < 16 → guard (mark_word d m) ≡ number (Maintainer d m)
 guard_mark d m a b = grind (arith, nat_tests)
 
 pub guard_epoch : (d k : ℕ) → k < 16 → guard (epoch_word d k) ≡ number (Token d)
 guard_epoch d k a = grind (arith, nat_tests)
+
+pub dc_epoch : (d k : ℕ) → k < 16 → dc_of (epoch_word d k) ≡ d
+dc_epoch d k few = omega arith
+
+-- a test of what a word holds
+pub none_tested : (a b : ℕ) → a ≡ b → (nat_eq a 0 ≡ true → b ≡ 0) × (b ≡ 0 → nat_eq a 0 ≡ true)
+none_tested a b is = ((λ t. grind (arith, nat_tests)), (λ z. grind (arith, nat_tests)))
 
 -- a word is the mark of one maintainer
 pub one_dc : (d m e k mark : ℕ) (log : List Event) → m < 16 → k < 16 → mark_word d m ≡ mark_word e k → mark ≤ has datacentre d (stamped log) + 1 → mark ≤ has datacentre e (stamped log) + 1
@@ -51,6 +64,7 @@ later_some a value more = omega arith
 stands_more : (log : List Event) (words words' : List ℕ) → Grew log words words' → (x : Note) → IsTrue log x → Stands words x → Stands words' x
 stands_more log words words' g (Met count) is t = tt
 stands_more log words words' g (Length d n) is t = tt
+stands_more log words words' g (Told d epochs marks) is t = (t.0, t.1, λ m low. (let h = t.2 m low in let u = g.more (mark_word d m) (omega arith) in omega arith))
 stands_more log words words' g (Ended w len) is t = λ d k j e le lt. ⊎_elim (λ (z : at_word words (epoch_word d j) ≡ 0). later_weaker len (has datacentre d (stamped log)) (at_word words' (epoch_word d j)) (is d k (omega arith) e) (g.fresh d j lt z))
     (λ (more : len < at_word words (epoch_word d j) / 32). inr (subst (λ z. len < z / 32) (sym (g.same (epoch_word d j) (omega arith) (later_some len (at_word words (epoch_word d j)) more))) more)) (t d k j e le lt)
 stands_more log words words' g (Found w value) is t = (t.0, (let u = g.more w t.0 in let v = t.1 in omega arith), λ high some_value. (let e = t.2 high some_value in g.same w high (omega arith) ∙ e))
@@ -64,24 +78,42 @@ stands_still : (words words' : List ℕ) → ((w : ℕ) → 2 ≤ w → at_word 
 stands_still words words' same (Met count) t = tt
 stands_still words words' same (Length d n) t = tt
 stands_still words words' same (Found w value) t = (t.0, (let e = same w t.0 in let u = t.1 in omega arith), λ high more. same w t.0 ∙ t.2 high more)
+stands_still words words' same (Told d epochs marks) t = (t.0, t.1, λ m low. (let h = t.2 m low in let u = same (mark_word d m) (omega arith) in omega arith))
 stands_still words words' same (Ended w len) t = λ d k j e le lt. subst (IsLater len) (sym (same (epoch_word d j) (omega arith))) (t d k j e le lt)
 
 all_still : (words words' : List ℕ) → ((w : ℕ) → 2 ≤ w → at_word words' w ≡ at_word words w) → (xs : List Note) → AllStand words xs → AllStand words' xs
 all_still words words' same [] t = tt
 all_still words words' same (x ∷ xs) t = (stands_still words words' same x t.0, all_still words words' same xs t.1)
 
-all_append : (words : List ℕ) (xs ys : List Note) → AllStand words xs → AllStand words ys → AllStand words (xs ++ ys)
-all_append words [] ys s t = t
-all_append words (x ∷ xs) ys s t = (s.0, all_append words xs ys s.1 t)
-
 pub lengths_stand : (words : List ℕ) (seen : List Event) (ds : List ℕ) → AllStand words (lengths_of ds seen)
 lengths_stand words seen [] = tt
 lengths_stand words seen (d ∷ ds) = (tt, lengths_stand words seen ds)
+
+-- what marks that were told say of a word
+told_at : (d w : ℕ) (marks : List ℕ) → mark_word d 0 ≤ w → said_by d w marks ≡ get_or marks (w - mark_word d 0) 0
+told_at d w marks le = grind (arith, nat_tests)
+
+pub told_none : (d w : ℕ) (marks : List ℕ) → length marks ≤ 16 → mark_word d 16 ≤ w → said_by d w marks ≡ 0
+told_none d w marks short far = told_at d w marks (omega arith) ∙ get_or_past marks (w - mark_word d 0) 0 (omega arith)
+
+pub told_here : (d m : ℕ) (marks : List ℕ) → said_by d (mark_word d m) marks ≡ get_or marks m 0
+told_here d m marks = told_at d (mark_word d m) marks (omega arith) ∙ ap (λ i. get_or marks i 0) (let e : mark_word d m - mark_word d 0 ≡ m = omega arith in e)
+
+pub told_before : (d w : ℕ) (marks : List ℕ) → w < mark_word d 0 → said_by d w marks ≡ 0
+told_before d w marks less = grind (arith, nat_tests)
+
+told_low : (words : List ℕ) (w d : ℕ) (marks : List ℕ) → length marks ≤ 16 → ((m : ℕ) → m < 16 → get_or marks m 0 ≤ at_word words (mark_word d m)) → said_by d w marks ≤ at_word words w
+told_low words w d marks short low = dite (dec_le (mark_word d 0) w)
+    (λ le. dite (dec_le (mark_word d 16) w)
+    (λ far. omega (arith, told_none d w marks short far))
+    (λ near. (let m : ℕ = w - mark_word d 0 in let is : mark_word d m ≡ w = omega arith in let h = low m (omega arith) in let e = ap (at_word words) is in omega (arith, told_at d w marks le))))
+    (λ before. omega (arith, told_before d w marks (omega arith)))
 
 said_low : (words : List ℕ) (w : ℕ) (x : Note) → Stands words x → said w x ≤ at_word words w
 said_low words w (Met count) t = omega arith
 said_low words w (Length d n) t = omega arith
 said_low words w (Ended u len) t = omega arith
+said_low words w (Told d epochs marks) t = told_low words w d marks t.0 t.2
 said_low words w (Found u value) t = dite (ℕ_discrete u w) (λ e. (let low = t.1 in let same = ap (at_word words) e in grind (arith, nat_tests))) (λ ne. grind (arith, nat_tests))
 
 -- no note says more of a word than it holds
@@ -96,6 +128,7 @@ said_same : (words : List ℕ) (w : ℕ) (x : Note) → 130 ≤ w → Stands wor
 said_same words w (Met count) high t more = absurd (omega arith)
 said_same words w (Length d n) high t more = absurd (omega arith)
 said_same words w (Ended u len) high t more = absurd (omega arith)
+said_same words w (Told d epochs marks) high t more = absurd (let none = told_none d w marks t.0 (omega (arith, t.1)) in omega arith)
 said_same words w (Found u value) high t more = dite (ℕ_discrete u w)
     (λ e. (let is : said w (Found u value) ≡ value = grind (arith, nat_tests) in sym (ap (at_word words) e) ∙ (t.2 (omega arith) (omega arith) ∙ sym is)))
     (λ ne. (let none : said w (Found u value) ≡ 0 = grind (arith, nat_tests) in absurd (omega arith)))
@@ -109,6 +142,7 @@ floor_later : (words : List ℕ) (d k j p : ℕ) (x : Note) → k ≤ j → j < 
 floor_later words d k j p (Met count) le lt t from low = absurd (omega arith)
 floor_later words d k j p (Length e n) le lt t from low = absurd (omega arith)
 floor_later words d k j p (Found u value) le lt t from low = absurd (omega arith)
+floor_later words d k j p (Told e epochs marks) le lt t from low = absurd (omega arith)
 floor_later words d k j p (Ended u len) le lt t from low = dite (ℕ_discrete u (epoch_word d k))
     (λ e. later_weaker p len (at_word words (epoch_word d j)) (let is : floor (epoch_word d k) (Ended u len) ≡ len = grind (arith, nat_tests) in omega arith) (t d k j e le lt))
     (λ ne. absurd (let none : floor (epoch_word d k) (Ended u len) ≡ 0 = grind (arith, nat_tests) in omega arith))
@@ -125,13 +159,6 @@ pub zeros : (n i : ℕ) → ◌≡◌ {A = ℕ} (at_word (replicate n 0) i) 0
 zeros zero i = refl
 zeros (suc n) zero = refl
 zeros (suc n) (suc i) = zeros n i
-
-pub starts : (n : ℕ) (ds : List Duty) → Worded [] (replicate n 0) ((ds, []) ∷ [])
-starts n ds = record { low = λ d m a b. omega (arith, zeros n (mark_word d m)); rows = λ d k j a b c z. zeros n (epoch_word d j); each = one }
-  where
-    one : (j : ℕ) (x : Finding) → get_elem? ((ds, []) ∷ []) j ≡ some x → FitsWords (replicate n 0) x
-    one zero x e = subst (FitsWords (replicate n 0)) (some-injective (ds, []) x e) record { stand = tt; own = λ w a b. zeros n w }
-    one (suc j) x e = cc
 
 module _ (log : List Event) (words : List ℕ) (xs : List Finding) (r : Worded log words xs) where
   -- the journal grows, and another word changes
@@ -150,7 +177,7 @@ module _ (log : List Event) (words : List ℕ) (xs : List Finding) (r : Worded l
     adds new t = let f = r.each id y at in record {
       low = r.low;
       rows = r.rows;
-      each = each_set words xs id (y.0, new ++ y.1) record { stand = all_append words new y.1 t f.stand; own = λ w a b. omega (arith, f.own w a b, best_append w new y.1, best_low words w new t) } (λ j x _. r.each j x);
+      each = each_set words xs id (y.0, new ++ y.1) record { stand = all_append (Stands words) new y.1 t f.stand; own = λ w a b. omega (arith, f.own w a b, best_append w new y.1, best_low words w new t) } (λ j x _. r.each j x);
     }
 
     -- what a look at a word leaves is true
@@ -171,7 +198,7 @@ module _ (log : List Event) (words : List ℕ) (xs : List Finding) (r : Worded l
       low = r.low;
       rows = r.rows;
       each = each_set words (set xs id y') other ([], []) record { stand = tt; own = λ w a b. absurd (omega arith) } (λ j z _. each_set words xs id y' record {
-        stand = all_append words y.1 x.1 f.stand g.stand;
+        stand = all_append (Stands words) y.1 x.1 f.stand g.stand;
         own = λ w a b. dite (ℕ_discrete (has number (guard w) y.0) 0)
             (λ none. omega (arith, has_append number (guard w) y.0 x.0, g.own w a (omega (arith, has_append number (guard w) y.0 x.0)), best_append w y.1 x.1, best_low words w y.1 f.stand))
             (λ some_here. omega (arith, f.own w a (omega arith), best_append w y.1 x.1, best_low words w x.1 g.stand));

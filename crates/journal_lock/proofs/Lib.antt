@@ -4,10 +4,14 @@ pub mod Runs
 pub mod Standing
 pub mod Stamps
 pub mod Locks
+pub mod EachNotes
 pub mod Notices
 pub mod Places
+pub mod Spans
 pub mod Finds
 pub mod Marks
+pub mod Settled
+pub mod Starts
 pub mod Sides
 pub mod Steps
 pub mod Pairs

@@ -11,7 +11,8 @@ use Rattle.journal_lock.specs.Duties.{place, has}
 use Rattle.journal_lock.specs.Words.{mark_word, epoch_word}
 use Rattle.journal_lock.specs.Finds.{best, ended, IsLater, AllStand}
 use Rattle.journal_lock.specs.Marks.{epoch_of, then_epochs, epochs_by, list_by, placed_by, Marked, MayRise}
-use Rattle.journal_lock.proofs.Finds.{at_word, zeros, best_same, ended_later}
+use Rattle.journal_lock.proofs.Finds.{at_word, best_same, ended_later}
+use Rattle.journal_lock.proofs.Spans.{AreAlike, alike_after}
 
 -- a step over one epoch
 over : (p value : ℕ) (e : Epoch) (r s : List Epoch) → ((f : Epoch) → epoch_from f r p ≡ epoch_from f s p) → epoch_from e (then_epochs value r) p ≡ epoch_from e (then_epochs value s) p
@@ -28,13 +29,6 @@ late_all : (g : ℕ → ℕ) (p n w : ℕ) (e : Epoch) → ((i : ℕ) → w ≤ 
 late_all g p zero w e late = refl
 late_all g p (suc n) w e late = over_late p (g w) e (epochs_by g (w + 1) n) (late w (omega arith) (omega arith)) (late_all g p n (w + 1) e (λ i a b. late i (omega arith) (omega arith)))
 
--- words that are equal, up to one from which on epochs start above p
-abbrev pub AreAlike : (f g : ℕ → ℕ) → ℕ → ℕ → ℕ → Type 0
-AreAlike f g p n w = (i : ℕ) → w ≤ i → i < w + n → (f i ≡ g i) ⊎ ((f i ≡ 0) × ((j : ℕ) → i ≤ j → j < w + n → IsLater p (g j)))
-
-alike_after : (f g : ℕ → ℕ) (p n w : ℕ) → AreAlike f g p (suc n) w → AreAlike f g p n (w + 1)
-alike_after f g p n w h i a b = ⊎_elim inl (λ (t : (f i ≡ 0) × ((j : ℕ) → i ≤ j → j < w + suc n → IsLater p (g j))). inr (t.0, λ j u v. t.1 j u (omega arith))) (h i (omega arith) (omega arith))
-
 -- they deal p alike
 pub alike : (f g : ℕ → ℕ) (p n w : ℕ) (e : Epoch) → AreAlike f g p n w → epoch_from e (epochs_by f w n) p ≡ epoch_from e (epochs_by g w n) p
 alike f g p zero w e h = refl
@@ -48,9 +42,6 @@ same_owner round d p f g h = ap (λ e. owner_in round e p) (alike f g p 16 (epoc
 -- which epoch of d a word is
 pub nth : (d i : ℕ) → epoch_word d 0 ≤ i → i < epoch_word d 0 + 16 → (k : ℕ) × (k < 16) × (i ≡ epoch_word d k)
 nth d i a b = (let k : ℕ = i - epoch_word d 0 in (k, omega arith, omega arith))
-
-pub starts : (round n : ℕ) → Marked round (replicate n 0) ([] ∷ [])
-starts round n = record { filled = λ d m p a b from low own. absurd (let z = zeros n (mark_word d m) in omega arith) }
 
 module _ (round : ℕ) (words : List ℕ) (qs : List (List Position)) (r : Marked round words qs) where
   -- the turn or the count changes, and no fewer are placed
@@ -92,20 +83,21 @@ module _ (round : ℕ) (words : List ℕ) (qs : List (List Position)) (r : Marke
             (λ ne. inl (sym (there i ne)))) ∙ owned));
       }
 
--- what a pass knows of the epochs deals the positions below the mark as they are dealt
-pub risen : (round d m mark : ℕ) (notes : List Note) (placed : List Position) (words : List ℕ) → AllStand words notes → MayRise round d m mark notes placed → (p : ℕ) → 1 ≤ p → p < mark → owner (list_by round (at_word words) d) p ≡ m → 0 < has place (8 * p + d) placed
-risen round d m mark notes placed words stand may p from low own = may.own p from low (same_owner round d p (λ w. best w notes) (at_word words) known ∙ own)
+-- what a pass knows of the epochs is as they are, but for those that start above positions below the mark
+pub known_alike : (round d m mark : ℕ) (notes : List Note) (placed : List Position) (words : List ℕ) → AllStand words notes → MayRise round d m mark notes placed → (p : ℕ) → 1 ≤ p → p < mark → AreAlike (λ w. best w notes) (at_word words) p 16 (epoch_word d 0)
+known_alike round d m mark notes placed words stand may p from low i le lt = let n = nth d i le lt in dite (ℕ_discrete (best i notes) 0)
+    (λ none. (let after = past n.0 (ap (λ z. best z notes) (sym n.2) ∙ none) in inr (
+      none,
+      λ j a b. (let o = nth d j (omega arith) b in subst (λ z. IsLater p (at_word words z)) (sym o.2)
+          (⊎_elim (λ (full : may.count ≡ 16). absurd (let q = n.1 in omega arith))
+          (λ (above : mark ≤ ended (epoch_word d may.count) notes + 1). ended_later words d may.count o.0 p notes (let q = n.2 in let u = o.2 in omega arith) o.1 stand from (omega arith))
+          may.later)),
+    )))
+    (λ some_epoch. inl (sym (best_same words i notes (omega arith) stand (omega arith))))
   where
     past : (k : ℕ) → best (epoch_word d k) notes ≡ 0 → may.count ≤ k
     past k none = dite (dec_le may.count k) (λ z. z) (λ less. absurd (let more = may.all k (omega arith) in omega arith))
 
-    known : AreAlike (λ w. best w notes) (at_word words) p 16 (epoch_word d 0)
-    known i le lt = let n = nth d i le lt in dite (ℕ_discrete (best i notes) 0)
-        (λ none. (let after = past n.0 (ap (λ z. best z notes) (sym n.2) ∙ none) in inr (
-          none,
-          λ j a b. (let o = nth d j (omega arith) b in subst (λ z. IsLater p (at_word words z)) (sym o.2)
-              (⊎_elim (λ (full : may.count ≡ 16). absurd (let q = n.1 in omega arith))
-              (λ (above : mark ≤ ended (epoch_word d may.count) notes + 1). ended_later words d may.count o.0 p notes (let q = n.2 in let u = o.2 in omega arith) o.1 stand from (omega arith))
-              may.later)),
-        )))
-        (λ some_epoch. inl (sym (best_same words i notes (omega arith) stand (omega arith))))
+-- so it deals the positions below the mark as they are dealt
+pub risen : (round d m mark : ℕ) (notes : List Note) (placed : List Position) (words : List ℕ) → AllStand words notes → MayRise round d m mark notes placed → (p : ℕ) → 1 ≤ p → p < mark → owner (list_by round (at_word words) d) p ≡ m → 0 < has place (8 * p + d) placed
+risen round d m mark notes placed words stand may p from low own = may.own p from low (same_owner round d p (λ w. best w notes) (at_word words) (known_alike round d m mark notes placed words stand may p from low) ∙ own)

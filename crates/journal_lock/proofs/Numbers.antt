@@ -48,7 +48,7 @@ has_at x d =
     let maintainers = block x (66 * d) (66 * d + 34) (66 * d + 50) (members (λ m. Maintainer d m) 16) q (has_members (λ m. Maintainer d m) (66 * d + 34) x 16 (66 * d + 50) (λ i. refl) (omega arith)) queues in
     block x (66 * d) (66 * d + 50) (66 * d + 66) (members (λ m. Filter d m) 16) t (has_members (λ m. Filter d m) (66 * d + 50) x 16 (66 * d + 66) (λ i. refl) (omega arith)) maintainers
 
-has_dcs : (x n : ℕ) → has number x (dc_duties n) ≡ below x (66 * n)
+pub has_dcs : (x n : ℕ) → has number x (dc_duties n) ≡ below x (66 * n)
 has_dcs x zero = grind (arith, nat_tests)
 has_dcs x (suc n) = has_append number x (duties_at n) (dc_duties n) ∙ (ap (λ (k : ℕ). has number x (duties_at n) + k) (has_dcs x n) ∙ (has_at x n ∙ ap (below x) (let e : 66 * n + 66 ≡ 66 * suc n = omega arith in e)))
 

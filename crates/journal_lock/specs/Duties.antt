@@ -6,21 +6,26 @@ use Rattle.abstract_log.specs.declared.event.Event.TheVariants.{Submit, Append, 
 use Rattle.journal_lock.specs.declared.duty.Duty.{Duty}
 use Rattle.journal_lock.specs.declared.duty.Duty.TheVariants.{Token, Table, Batcher, Queue, Maintainer, Filter, Session, Draft}
 use Rattle.journal_lock.specs.declared.duty.Position.{Position}
+use Rattle.cz_base.specs.declared.limits.TheConstants.{DATACENTRES, MEMBERS}
+use Rattle.journal_lock.specs.declared.duty.TheConstants.{DUTIES, BATCHERS, QUEUES, MAINTAINERS, FILTERS, SESSION_DUTIES}
 
--- The number of a duty. With datacentres below 8 and members below 16 no two duties have the same.
+-- The number of a duty. With datacentres below DATACENTRES and members below MEMBERS no two duties have the same.
 abbrev pub number : Duty → ℕ
-number (Token d) = 66 * d
-number (Table d) = 66 * d + 1
-number (Batcher d m) = 66 * d + 2 + m
-number (Queue d m) = 66 * d + 18 + m
-number (Maintainer d m) = 66 * d + 34 + m
-number (Filter d m) = 66 * d + 50 + m
-number (Session s) = 528 + 2 * s
-number (Draft s) = 529 + 2 * s
+number (Token d) = DUTIES * d
+number (Table d) = DUTIES * d + 1
+number (Batcher d m) = DUTIES * d + BATCHERS + m
+number (Queue d m) = DUTIES * d + QUEUES + m
+number (Maintainer d m) = DUTIES * d + MAINTAINERS + m
+number (Filter d m) = DUTIES * d + FILTERS + m
+number (Session s) = SESSION_DUTIES + 2 * s
+number (Draft s) = SESSION_DUTIES + 1 + 2 * s
 
--- The number of a position. With datacentres below 8 no two positions have the same.
+-- The number of position p of datacentre d. With datacentres below DATACENTRES no two positions have the same.
+abbrev pub place_at : ℕ → ℕ → ℕ
+place_at d p = DATACENTRES * p + d
+
 abbrev pub place : Position → ℕ
-place p = 8 * p.lid + p.dc
+place p = place_at p.dc p.lid
 
 -- the datacentre of a position
 abbrev pub datacentre : Position → ℕ
@@ -88,7 +93,7 @@ members f (suc n) = f n ∷ members f n
 
 -- the duties of datacentre d
 abbrev pub duties_at : ℕ → List Duty
-duties_at d = members (λ m. Filter d m) 16 ++ (members (λ m. Maintainer d m) 16 ++ (members (λ m. Queue d m) 16 ++ (members (λ m. Batcher d m) 16 ++ (Table d ∷ Token d ∷ []))))
+duties_at d = members (λ m. Filter d m) MEMBERS ++ (members (λ m. Maintainer d m) MEMBERS ++ (members (λ m. Queue d m) MEMBERS ++ (members (λ m. Batcher d m) MEMBERS ++ (Table d ∷ Token d ∷ []))))
 
 -- the duties of the first n datacentres
 abbrev pub dc_duties : ℕ → List Duty

@@ -129,10 +129,6 @@ with_names v x = record { hold = v.hold; notes = v.notes; names = x }
 abbrev pub with_hold : View → Hold → View
 with_hold v h = record { hold = h; notes = v.notes; names = v.names }
 
--- the first pass
-abbrev pub fresh : Workload → View
-fresh load = record { hold = plain load (known [] (all_duties load)) Idle; notes = []; names = names [] [] }
-
 abbrev pub no_load : Workload
 no_load = record { dcs = 0; sessions = [] }
 
@@ -162,14 +158,6 @@ counted v log = with_names (staged v log Back) (names (stamped (drop (length v.h
 
 abbrev pub Sat : Type 0
 Sat = Me (Option Book) View
-
--- the turn was free and is taken, with the journal, which has no event of the pass's duties that the pass had not seen
-abbrev pub Took : Sat → Sat → Type 0
-Took m m' =
-    (w : Book) × IsRun m.0.hold.load w.log × Within m.0.hold.now.duties m.0.hold.now.seen w.log × (m'.0 ≡ staged m.0 w.log Out) × (m'.1 ≡ (0, Some w) ∷ m.1)
-
-abbrev pub Takes : Step (Option Book) → Sat → ℕ → Sat → Type 0
-Takes st m found m' = (found ≡ 0 → Took m m') × (found ≢ 0 → m' ≡ m)
 
 abbrev pub Counts : Step (Option Book) → Sat → ℕ → Sat → Type 0
 Counts st m found m' = (w : Book) → m.1 ≡ (0, Some w) ∷ [] → (m'.0 ≡ counted m.0 w.log) × (m'.1 ≡ [])

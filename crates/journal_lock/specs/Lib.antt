@@ -4,7 +4,11 @@ pub mod Words
 pub mod Notes
 pub mod Finds
 pub mod Marks
+pub mod Heads
+pub mod Start
+pub mod Takes
 pub mod Names
 pub mod Rule
 pub mod Passes
 pub mod Tried
+pub mod Listing

@@ -11,7 +11,7 @@ use Rattle.journal_lock.specs.declared.law.Note.{Note}
 use Rattle.journal_lock.specs.declared.law.Note.TheVariants.{Met, Length}
 use Rattle.journal_lock.specs.declared.law.View.{View}
 use Rattle.journal_lock.specs.Duties.{place, datacentre, has, minus, stamped, HasDuty}
-use Rattle.journal_lock.specs.Law.{Book, total, Sat, names, learnt, Within}
+use Rattle.journal_lock.specs.Law.{Book, total, Sat, names}
 use Rattle.journal_lock.specs.Notes.{noted}
 
 -- how often a position is named
@@ -60,8 +60,3 @@ Amends ps ds st m found m' = m' ≡ (amended ps ds m.0, m.1)
 
 abbrev pub Meets : Step (Option Book) → Sat → ℕ → Sat → Type 0
 Meets st m found m' = (length m.0.hold.now.seen ≤ found) × IsNamed m.0.hold.now.seen m.0.names × (m' ≡ (noted m.0 (Met found), m.1))
-
-abbrev pub Learns : Step (Option Book) → Sat → ℕ → Sat → Type 0
-Learns st m found m' =
-    Within m.0.hold.left.duties m.0.hold.left.seen m.0.hold.now.seen × Within m.0.hold.right.duties m.0.hold.right.seen m.0.hold.now.seen
-    × IsNamed m.0.hold.now.seen m.0.names × (m' ≡ (learnt m.0, m.1))

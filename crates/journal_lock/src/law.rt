@@ -3,7 +3,8 @@ use crate::duty::{Duty, Position};
 use crate::journal::Journal;
 use abstract_log::{Event, Workload};
 use atomic_table::{Join, Play, Split, TableRule};
-use cz_base::DcId;
+use cz_base::{DcId, Lid, Seq};
+use flstore_rounds::Epochs;
 use std::collections::LinkedList;
 use std::marker::{Brand, PhantomData};
 
@@ -46,6 +47,13 @@ pub enum Note {
     /// The word of an epoch held none when the log of its datacentre had so many records, so that each epoch that goes
     /// there or later starts above them.
     Ended { word: u64, len: u64 },
+    /// So the epochs of a datacentre and marks of its maintainers stand to one another: each position below the mark of
+    /// its owner is placed, and later epochs start at these marks or above them.
+    Told {
+        dc: DcId,
+        epochs: Epochs,
+        marks: LinkedList<Lid>,
+    },
 }
 
 /// Positions in the journal, which no other pass names. No value of it is made.
@@ -70,6 +78,8 @@ pub struct Plan {
     pub workload: Workload,
     /// How many positions in a row a maintainer owns.
     pub round: u32,
+    /// How many maintainers each datacentre has at first.
+    pub maintainers: Seq<u32>,
 }
 
 /// Word 0 is the turn, 0 or 1, and word 1 counts the events. Then each maintainer of each datacentre has a word for its
@@ -78,20 +88,40 @@ pub struct Plan {
 pub(crate) struct Law;
 
 impl TableRule<Option<Journal>, View, Plan> for Law {
-    ghost use Rattle.journal_lock.specs.Law.{fresh};
+    ghost use Rattle.journal_lock.specs.Start.{fresh};
     ghost use Rattle.journal_lock.specs.Rule.{Keeps};
 
     ghost holds = { λ plan. Keeps plan.workload plan.round };
 
-    ghost first = { λ plan. fresh plan.workload };
+    ghost first = { fresh };
 }
 
-pub(crate) struct Take;
+/// What a lock is made for, so far as steps tell of it, for contracts alone: each call of the lock picks its own.
+pub(crate) trait Planned {
+    ghost use Rattle.std.specs.Prelude.{ℕ};
+    ghost use Rattle.abstract_log.specs.declared.command.Workload.{Workload};
 
-impl Play<Option<Journal>, View> for Take {
-    ghost use Rattle.journal_lock.specs.Law.{Takes};
+    ghost load: { Workload };
 
-    ghost then = { Takes };
+    ghost round: { ℕ };
+}
+
+impl Planned for Brand {
+    ghost use Rattle.journal_lock.specs.Law.{no_load};
+
+    ghost load = { no_load };
+
+    ghost round = { 0 };
+}
+
+pub(crate) struct Take<C> {
+    plan: PhantomData<C>,
+}
+
+impl<C: Planned> Play<Option<Journal>, View> for Take<C> {
+    ghost use Rattle.journal_lock.specs.Takes.{Takes};
+
+    ghost then = { Takes C.load C.round };
 }
 
 pub(crate) struct Count;
@@ -110,12 +140,14 @@ impl Play<Option<Journal>, View> for Free {
     ghost then = { Frees };
 }
 
-pub(crate) struct Learn;
+pub(crate) struct Learn<C> {
+    plan: PhantomData<C>,
+}
 
-impl Play<Option<Journal>, View> for Learn {
-    ghost use Rattle.journal_lock.specs.Names.{Learns};
+impl<C: Planned> Play<Option<Journal>, View> for Learn<C> {
+    ghost use Rattle.journal_lock.specs.Takes.{Learns};
 
-    ghost then = { Learns };
+    ghost then = { Learns C.round };
 }
 
 pub(crate) struct Meet;
@@ -140,6 +172,36 @@ impl Play<Option<Journal>, View> for Read {
     ghost use Rattle.journal_lock.specs.Finds.{Reads};
 
     ghost then = { Reads };
+}
+
+pub(crate) struct Tell<C> {
+    plan: PhantomData<C>,
+}
+
+impl<C: Planned> Play<Option<Journal>, View> for Tell<C> {
+    ghost use Rattle.journal_lock.specs.Heads.{Tells};
+
+    ghost then = { Tells C.load C.round };
+}
+
+pub(crate) struct See<C> {
+    plan: PhantomData<C>,
+}
+
+impl<C: Planned> Play<Option<Journal>, View> for See<C> {
+    ghost use Rattle.journal_lock.specs.Heads.{Sees};
+
+    ghost then = { Sees C.round };
+}
+
+pub(crate) struct Raise<C> {
+    plan: PhantomData<C>,
+}
+
+impl<C: Planned> Play<Option<Journal>, View> for Raise<C> {
+    ghost use Rattle.journal_lock.specs.Heads.{Raises};
+
+    ghost then = { Raises C.round };
 }
 
 pub(crate) struct Write;

@@ -26,12 +26,16 @@
 
 mod both;
 mod duty;
+mod heads;
 mod journal;
 mod law;
 pub mod laws;
 mod lock;
 mod parts;
 mod room;
+mod row;
+mod start;
+mod words;
 
 pub use both::{begin_both, begin_session};
 pub use duty::{Duty, Position};

@@ -1,72 +1,58 @@
 //! The lock, its passes and its holder.
-ghost use Rattle.std.specs.Prelude.{◌≡◌, ◌≢◌, ℕ, ◌+◌, ◌<◌, ◌≤◌, ◌||◌, true, [], ◌∷◌, ◌++◌, length, drop, Some, IfOk, OnOk, OnErr};
+ghost use Rattle.std.specs.Prelude.{◌≡◌, ◌≢◌, ℕ, ◌+◌, ◌<◌, ◌≤◌, ◌||◌, true, false, [], ◌∷◌, ◌++◌, length, drop, All, slice_index, IfOk, OnOk, OnErr};
+ghost use Rattle.cz_base.specs.declared.limits.TheConstants.{DATACENTRES, MEMBERS, ROUND};
+ghost use Rattle.flstore_rounds.specs.Heads.{head};
 ghost use Rattle.abstract_log.specs.Runs.{IsRun, world_of};
 ghost use Rattle.abstract_log.specs.Shapes.{FitsWorkload};
 ghost use Rattle.abstract_log.specs.Steps.{CanHappen};
-ghost use Rattle.journal_lock.specs.declared.law.Note.TheVariants.{Met, Found};
-ghost use Rattle.journal_lock.specs.Duties.{number, place, datacentre, has, minus, stamped, Has, duties_of, all_duties, Among, HasDuty};
+ghost use Rattle.journal_lock.specs.declared.law.Note.TheVariants.{Met};
+ghost use Rattle.journal_lock.specs.Duties.{number, place, minus, stamped, duties_of, all_duties, Among, HasDuty};
 ghost use Rattle.journal_lock.specs.Law.{longer, names, Within};
 ghost use Rattle.journal_lock.specs.Names.{IsNamed, NamesByDuty, lengths_of};
-ghost use Rattle.journal_lock.specs.declared.duty.Duty.TheVariants.{Maintainer, Token};
-ghost use Rattle.cz_base.specs.declared.limits.TheConstants.{DATACENTRES, MEMBERS, NUMBERS_END};
-ghost use Rattle.journal_lock.specs.declared.lock.TheConstants.{MARKS, EPOCHS, WORDS};
-ghost use Rattle.journal_lock.specs.Words.{mark_word, epoch_word, code};
-ghost use Rattle.journal_lock.specs.Finds.{best, read_notes};
-ghost use Rattle.journal_lock.specs.Marks.{MayRise};
+ghost use Rattle.journal_lock.specs.Heads.{settled, known_list};
+ghost use Rattle.journal_lock.specs.Start.{first_list, first_notes};
 ghost use Rattle.journal_lock.specs.Tried.{IsTried, IsHeld};
 
 use crate::journal::Journal;
 use crate::law::{
-    Amend, Change, Count, Cut, Free, Glue, Law, Learn, Look, Meet, Part, Plan, Read, Take, View,
-    Write,
+    Amend, Change, Count, Cut, Free, Glue, Law, Learn, Meet, Part, Plan, Planned, Take, View,
 };
+use crate::start::first_words;
+use crate::words::{COUNT, TURN};
 use abstract_log::{Event, Run, Workload};
 use atomic_table::{Seat, Table};
-use cz_base::limits::{DATACENTRES, MEMBERS};
-use cz_base::{DcId, Lid, NoMemory};
-use flstore_rounds::Epoch;
+use cz_base::{NoMemory, Seq};
 use std::alloc::Global;
-use std::marker::Model;
+use std::marker::{Brand, Model};
 use std::sync::Wait;
 use std::thread;
 
-const TURN: usize = 0;
-
-const COUNT: usize = 1;
-
-const MARKS: usize = 2;
-
-const EPOCHS: usize = MARKS + DATACENTRES * MEMBERS;
-
-const WORDS: usize = EPOCHS + DATACENTRES * MEMBERS;
-
-// The word of an epoch is so many times its start, and its members.
-const SPAN: u64 = 32;
-
-/// The journal under a lock. Threads share it, and each has a pass of its own. Contracts see which lock it is, and
-/// the workload.
+/// The journal under a lock. Threads share it, and each has a pass of its own. Contracts see which lock it is, the
+/// workload, and how many positions in a row a maintainer owns.
 #[derive(Drop)]
 pub struct JournalLock {
-    table: Table<Option<Journal>, View, Plan, Law, Global>,
-    plan: Plan,
+    pub(crate) table: Table<Option<Journal>, View, Plan, Law, Global>,
+    pub(crate) plan: Plan,
 }
 
 impl Model for JournalLock {
-    ghost use Rattle.std.specs.Prelude.{◌≡◌};
+    ghost use Rattle.std.specs.Prelude.{◌≡◌, ◌≤◌};
+    ghost use Rattle.cz_base.specs.declared.limits.TheConstants.{ROUND};
+    ghost use Rattle.journal_lock.specs.declared.words.TheConstants.{WORDS};
     ghost use Rattle.journal_lock.specs.Passes.{Lock};
 
     ghost Value = { Lock };
 
     ghost view = { λ l. record { table = l.table.shared.table_id; workload = l.plan.workload; round = l.plan.round } };
 
-    ghost invariant = { λ l. (l.table.shared.table_id.words ≡ 258) × (l.table.shared.table_id.slots ≡ 1) × (l.plan ≡ l.table.shared.key) };
+    ghost invariant = { λ l. (l.table.shared.table_id.words ≡ WORDS) × (l.table.shared.table_id.slots ≡ 1) × (l.plan ≡ l.table.shared.key) };
 }
 
 /// A thread's pass: it has seen a beginning of the journal, in which all events of its duties stand. It has no bytes
 /// but a flag. Contracts see a record of what it knows.
 #[derive(Drop)]
 pub struct Pass {
-    seat: Seat<Option<Journal>, View>,
+    pub(crate) seat: Seat<Option<Journal>, View>,
     failed: bool,
 }
 
@@ -108,67 +94,35 @@ pub enum Tried {
     Busy { word: u64, pass: Pass },
 }
 
-// Which word has the mark of a maintainer.
-fn mark_place(dc: DcId, member: u32) -> usize
-    requires { member < MEMBERS }
-    ensures value { result ≡ mark_word dc member }
-    ensures dc { dc < DATACENTRES }
-    ensures within { (MARKS ≤ result) × (result < EPOCHS) }
-{
-    MARKS + MEMBERS * dc.number() as usize + member as usize
-}
-
-// Which word has an epoch of a datacentre.
-fn epoch_place(dc: DcId, at: usize) -> usize
-    requires { at < MEMBERS }
-    ensures value { result ≡ epoch_word dc at }
-    ensures dc { dc < DATACENTRES }
-    ensures within { (EPOCHS ≤ result) × (result < WORDS) }
-{
-    EPOCHS + MEMBERS * dc.number() as usize + at
-}
-
-// An epoch from its word, which is 0 where there is none.
-fn from_word(word: u64) -> Option<Epoch>
-    ensures { code result ≡ word }
-{
-    if word == 0 {
-        return None;
-    }
-    Some(Epoch {
-        start: word / SPAN,
-        members: (word % SPAN) as u32,
-    })
-}
-
-// The word of an epoch.
-fn to_word(epoch: Epoch) -> u64
-    requires { (epoch.start < NUMBERS_END) × (epoch.members ≤ MEMBERS) }
-    ensures { result ≡ code (Some epoch) }
-{
-    SPAN * epoch.start + epoch.members as u64
-}
-
 impl JournalLock {
-    /// An empty journal for the workload, and a pass with every duty.
+    /// An empty journal for the workload, where maintainers own so many positions in a row and each datacentre has so
+    /// many of them at first, with marks of 1. The pass has every duty, and knows these epochs and marks.
     pub fn new(
         alloc: Global,
         workload: Workload,
         round: u32,
+        maintainers: &[u32],
     ) -> Result<(JournalLock, Pass), NoMemory>
-        requires { FitsWorkload workload }
-        ensures lock { IfOk result (λ t. (t.0.workload ≡ workload) × (t.1.table ≡ t.0.table) × (t.1.workload ≡ workload)) }
-        ensures round { IfOk result (λ t. t.0.round ≡ round) }
-        ensures pass { IfOk result (λ t. (t.1.seen ≡ []) × (t.1.duties ≡ all_duties workload) × (t.1.notes ≡ []) × (t.1.hand ≡ []) × (t.1.placed ≡ [])) }
+        requires workload { FitsWorkload workload }
+        requires round { (1 ≤ round) × (round ≤ ROUND) }
+        requires maintainers { (length maintainers.now ≡ workload.dcs) × All (λ n. (1 ≤ n) × (n ≤ MEMBERS)) maintainers.now }
+        ensures lock { IfOk result (λ t. (t.0.workload ≡ workload) × (t.0.round ≡ round) × (t.1.table ≡ t.0.table) × (t.1.workload ≡ workload)) }
+        ensures pass { IfOk result (λ t. (t.1.seen ≡ []) × (t.1.duties ≡ all_duties workload) × (t.1.failed ≡ false) × (t.1.notes ≡ first_notes round 0 maintainers.now) × (t.1.hand ≡ []) × (t.1.placed ≡ [])) }
+        ensures epochs { IfOk result (λ t. (d : ℕ) → d < workload.dcs → known_list round d t.1.notes ≡ first_list round (slice_index maintainers.now d)) }
     {
         let Ok(mut slots) = Vec::with_capacity(alloc, 1) else {
             return Err(NoMemory);
         };
         slots.push_reserved(Some(Journal::new(alloc)));
-        let Ok(words) = Vec::from_elem(alloc, 0u64, WORDS) else {
+        let words = first_words(alloc, maintainers)?;
+        let Ok(members) = Vec::from_slice(alloc, maintainers) else {
             return Err(NoMemory);
         };
-        let plan = Plan { workload, round };
+        let plan = Plan {
+            workload,
+            round,
+            maintainers: Seq::from_vec(members),
+        };
         let Ok((table, seat)) = Table::new(alloc, words.as_slice(), slots, &plan) else {
             return Err(NoMemory);
         };
@@ -180,17 +134,27 @@ impl JournalLock {
     }
 
     /// Takes the turn, unless it stands taken. The holder has seen the whole journal, which has no event of its
-    /// duties that the pass had not seen.
+    /// duties that the pass had not seen. All that the pass noted is true of it, and its logs reach the heads that the
+    /// pass was told.
     pub fn try_take(&self, pass: Pass) -> Tried
         requires lock { pass.table ≡ self.now.table }
         requires duty { HasDuty pass.duties }
-        ensures { IsTried pass result }
+        ensures { IsTried self.now pass result }
+    {
+        self.take_once::<Brand>(pass)
+    }
+
+    fn take_once<C: Planned>(&self, pass: Pass) -> Tried
+        requires lock { pass.table ≡ self.now.table }
+        requires plan { (C.load ≡ self.now.workload) × (C.round ≡ self.now.round) }
+        requires duty { HasDuty pass.duties }
+        ensures { IsTried self.now pass result }
     {
         let Pass { mut seat, failed } = pass;
         let word = self
             .table
             .shared
-            .compare_exchange::<Take>(&mut seat, TURN, 0, 1);
+            .compare_exchange::<Take<C>>(&mut seat, TURN, 0, 1);
         if word != 0 {
             let pass = Pass { seat, failed };
             return Tried::Busy { word, pass };
@@ -208,7 +172,7 @@ impl JournalLock {
     pub fn take<R: Wait>(&self, rt: &R, pass: Pass) -> Holder
         requires lock { pass.table ≡ self.now.table }
         requires duty { HasDuty pass.duties }
-        ensures { IsHeld pass result }
+        ensures { IsHeld self.now pass result }
     {
         let mut pass = pass;
         for _ in rt.forever() {
@@ -242,17 +206,33 @@ impl JournalLock {
     }
 
     /// The first pass takes in the second, and has seen the longer of both. What it has seen has no event of the
-    /// duties of either that this one had not seen. It names no position twice, and none that is not stamped there.
+    /// duties of either that this one had not seen. It names no position twice, and none that is not stamped there, and
+    /// the heads that it was told are no lower than those of either.
     pub fn join(&self, pass: &mut Pass, other: Pass)
         requires lock { (pass.old.table ≡ self.now.table) × (other.table ≡ self.now.table) }
         ensures all { pass.new ≡ record pass.old { seen = longer pass.old.seen other.seen; duties = pass.old.duties ++ other.duties; failed = pass.old.failed || other.failed; notes = pass.old.notes ++ other.notes; hand = pass.old.hand ++ other.hand; placed = pass.old.placed ++ other.placed } }
         ensures one { Within pass.old.duties pass.old.seen pass.new.seen }
         ensures two { Within other.duties other.seen pass.new.seen }
         ensures named { IsNamed pass.new.seen (names pass.new.hand pass.new.placed) }
+        ensures heads { (d : ℕ) → d < DATACENTRES → (head (settled self.now.round d pass.old.notes) ≤ head (settled self.now.round d pass.new.notes)) × (head (settled self.now.round d other.notes) ≤ head (settled self.now.round d pass.new.notes)) }
+    {
+        self.join_both::<Brand>(pass, other);
+    }
+
+    fn join_both<C: Planned>(&self, pass: &mut Pass, other: Pass)
+        requires lock { (pass.old.table ≡ self.now.table) × (other.table ≡ self.now.table) }
+        requires plan { C.round ≡ self.now.round }
+        ensures all { pass.new ≡ record pass.old { seen = longer pass.old.seen other.seen; duties = pass.old.duties ++ other.duties; failed = pass.old.failed || other.failed; notes = pass.old.notes ++ other.notes; hand = pass.old.hand ++ other.hand; placed = pass.old.placed ++ other.placed } }
+        ensures one { Within pass.old.duties pass.old.seen pass.new.seen }
+        ensures two { Within other.duties other.seen pass.new.seen }
+        ensures named { IsNamed pass.new.seen (names pass.new.hand pass.new.placed) }
+        ensures heads { (d : ℕ) → d < DATACENTRES → (head (settled self.now.round d pass.old.notes) ≤ head (settled self.now.round d pass.new.notes)) × (head (settled self.now.round d other.notes) ≤ head (settled self.now.round d pass.new.notes)) }
     {
         let Pass { seat, failed } = other;
         self.table.shared.join_seat::<Glue>(&mut pass.seat, seat);
-        self.table.shared.load::<Learn>(&mut pass.seat, COUNT);
+        self.table
+            .shared
+            .load::<Learn<C>>(&mut pass.seat, COUNT);
         pass.failed = pass.failed || failed;
     }
 
@@ -274,68 +254,6 @@ impl JournalLock {
         ensures { pass.new ≡ record pass.old { hand = minus place pass.old.hand C.placed; placed = C.placed ++ pass.old.placed; notes = lengths_of C.lengths pass.old.seen ++ pass.old.notes } }
     {
         self.table.shared.load::<Amend<C>>(&mut pass.seat, COUNT);
-    }
-
-    /// A mark of a maintainer, no less than the pass knew, and just that where it has the maintainer's duty. The pass
-    /// notes it.
-    pub fn load_mark(&self, pass: &mut Pass, dc: DcId, member: u32) -> Lid
-        requires lock { pass.old.table ≡ self.now.table }
-        requires member { member < MEMBERS }
-        ensures no_less { best (mark_word dc member) pass.old.notes ≤ result }
-        ensures own { Has (Maintainer dc member) pass.old.duties → result ≡ best (mark_word dc member) pass.old.notes }
-        ensures noted { pass.new ≡ record pass.old { notes = Found (mark_word dc member) result ∷ pass.old.notes } }
-    {
-        let word = mark_place(dc, member);
-        self.table.shared.load::<Look>(&mut pass.seat, word)
-    }
-
-    /// Raises the mark of a maintainer, to at most one more than the length of its log. The pass has placed each of the
-    /// maintainer's positions below it, and knows that they stay its own. The pass notes the mark.
-    pub fn raise_mark(&self, pass: &mut Pass, dc: DcId, member: u32, mark: Lid)
-        requires lock { pass.old.table ≡ self.now.table }
-        requires member { member < MEMBERS }
-        requires duty { Has (Maintainer dc member) pass.old.duties }
-        requires within { mark ≤ has datacentre dc (stamped pass.old.seen) + 1 }
-        requires placed { MayRise self.now.round dc member mark pass.old.notes pass.old.placed }
-        ensures { pass.new ≡ record pass.old { notes = Found (mark_word dc member) mark ∷ pass.old.notes } }
-    {
-        let word = mark_place(dc, member);
-        self.table
-            .shared
-            .fetch_max::<Write>(&mut pass.seat, word, mark);
-    }
-
-    /// The epoch of a datacentre at this place, counted from 0, where there is one. It is the one that the pass knew,
-    /// if it knew one, and just what the pass knew where it has the token's duty. The pass notes it, and where there is
-    /// none, that later ones start above what it has seen of the log.
-    pub fn load_epoch(&self, pass: &mut Pass, dc: DcId, at: usize) -> Option<Epoch>
-        requires lock { pass.old.table ≡ self.now.table }
-        requires at { at < MEMBERS }
-        ensures no_less { 0 < best (epoch_word dc at) pass.old.notes → code result ≡ best (epoch_word dc at) pass.old.notes }
-        ensures own { Has (Token dc) pass.old.duties → code result ≡ best (epoch_word dc at) pass.old.notes }
-        ensures noted { pass.new ≡ record pass.old { notes = read_notes (epoch_word dc at) (has datacentre dc (stamped pass.old.seen)) (code result) ++ pass.old.notes } }
-    {
-        let word = self
-            .table
-            .shared
-            .load::<Read>(&mut pass.seat, epoch_place(dc, at));
-        from_word(word)
-    }
-
-    /// The epoch of a datacentre goes to this place, where there was none, after the earlier ones. It starts above every
-    /// position that the log has. The pass notes it.
-    pub fn write_epoch(&self, pass: &mut Pass, dc: DcId, at: usize, epoch: Epoch)
-        requires lock { pass.old.table ≡ self.now.table }
-        requires duty { Has (Token dc) pass.old.duties }
-        requires at { at < MEMBERS }
-        requires next { (best (epoch_word dc at) pass.old.notes ≡ 0) × ((k : ℕ) → k < at → 0 < best (epoch_word dc k) pass.old.notes) }
-        requires above { has datacentre dc (stamped pass.old.seen) < epoch.start }
-        requires within { (epoch.start < NUMBERS_END) × (1 ≤ epoch.members) × (epoch.members ≤ MEMBERS) }
-        ensures { pass.new ≡ record pass.old { notes = Found (epoch_word dc at) (code (Some epoch)) ∷ pass.old.notes } }
-    {
-        self.table
-            .shared
-            .store::<Write>(&mut pass.seat, epoch_place(dc, at), to_word(epoch));
     }
 
     /// The workload and the journal, of which a pass with every duty has seen all.

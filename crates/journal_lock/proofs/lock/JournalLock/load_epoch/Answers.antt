@@ -14,12 +14,12 @@ load-word-requires c = (search rules, omega (arith, c.self.invariant.0, c.epoch_
 pub returns-clause-no_less : goal.returns-clause-no_less
 returns-clause-no_less c =
     let word = c.epoch_place.ensures.value in
-    λ more. c.from_word.ensures
+    λ more. c.from_word.ensures.code
     ∙ subst (λ (z : ℕ × List Note). 0 < best z.0 z.1 → c.load-word.result ≡ best z.0 z.1) (λ i. (word i, ap (λ t. t.notes) c.pass.view_is i)) (c.load-word.ensures.2.0 (omega (arith, c.epoch_place.ensures.within.0))) more
 
 pub returns-clause-own : goal.returns-clause-own
 returns-clause-own c =
     let d = c.args.dc in let k = c.args.at in let word = c.epoch_place.ensures.value in
-    λ duty. c.from_word.ensures
+    λ duty. c.from_word.ensures.code
     ∙ subst (λ (z : ℕ × ℕ × List Duty × List Note). 0 < has number z.0 z.2 → c.load-word.result ≡ best z.1 z.3)
     (λ i. ((ap guard word ∙ guard_epoch d k c.requires.at) i, word i, ap (λ t. t.duties) c.pass.view_is i, ap (λ t. t.notes) c.pass.view_is i)) c.load-word.ensures.2.1 duty
