@@ -11,6 +11,7 @@ pub mod Spans
 pub mod Finds
 pub mod Marks
 pub mod Settled
+pub mod Rows
 pub mod Starts
 pub mod Sides
 pub mod Steps
