@@ -1,7 +1,7 @@
 -- What looks at the words of a datacentre leave, one word after another.
-use Rattle.std.proofs.Common.{◌≡◌, ◌≢◌, ◌⊎◌, ℕ, zero, suc, ◌+◌, ◌-◌, ◌%◌, ◌<◌, ◌≤◌, ◌==◌, Bool, true, false, cond, max, List, [], ◌∷◌, ◌++◌, map, length, take, set, get_or, Option, Some, None, refl, ap, sym, ◌∙◌, subst, ⊎_elim, inl, inr, arith, length-append, length-set}
+use Rattle.std.proofs.Common.{◌≡◌, ◌≢◌, ◌⊎◌, ℕ, zero, suc, ◌+◌, ◌-◌, ◌%◌, ◌<◌, ◌≤◌, ◌==◌, Bool, true, false, cond, max, List, [], ◌∷◌, ◌++◌, map, length, take, set, get_or, Option, Some, None, refl, ap, sym, ◌∙◌, subst, ⊎_elim, inl, inr, arith, length-append, length-set, get_or-set_same, get_or-set_other}
 use Rattle.std.proofs.lemmas.Bool.Decides.{nat_tests}
-use Rattle.std.proofs.lemmas.List.{get_or_past, get_or_push, get_or_append_left, get_or-map, length-map, map_push, take_more_set}
+use Rattle.std.proofs.lemmas.List.{get_or_past, get_or_push, get_or_append_left, get_or-map, length-map, length-take-le, map_push, take_more_set}
 use mathlib.Core.Logic.{dite}
 use native.Mathlib.Decide.{ℕ_discrete, dec_le}
 use Rattle.flstore_rounds.specs.declared.epochs.Epoch.{Epoch}
@@ -62,8 +62,8 @@ found_settled round d w [] notes = refl
 found_settled round d w (x ∷ xs) notes = found_settled round d (w + 1) xs (Found w x ∷ notes)
 
 -- epochs that were found say nothing of marks
-pub found_marks : (d : ℕ) (xs : List ℕ) (notes : List Note) → d < 8 → known_marks d (found_list (epoch_word d 0) xs notes) ≡ known_marks d notes
-found_marks d xs notes small = marks_same (λ w. best w (found_list (epoch_word d 0) xs notes)) (λ w. best w notes) (mark_word d 0) 16 (λ i a b. found_other (epoch_word d 0) xs notes i (inl (omega arith)))
+pub found_marks : (d : ℕ) (xs : List ℕ) (notes : List Note) → known_marks d (found_list (epoch_word d 0) xs notes) ≡ known_marks d notes
+found_marks d xs notes = marks_same (λ w. best w (found_list (epoch_word d 0) xs notes)) (λ w. best w notes) (mark_word d 0) 16 (λ i a b. found_other (epoch_word d 0) xs notes i (inl (omega arith)))
 
 -- marks
 
@@ -77,20 +77,17 @@ pub marks_next : (d : ℕ) (p q q' : Ticket) (marks : List ℕ) (at x : ℕ) →
 marks_next d p q q' marks at x r low more is = let long = r.long in record {
   long = length-set marks at x ∙ long;
   kept = is ∙ ((λ i. record (r.kept i) { notes = Found (mark_word d at) x ∷ (r.kept i).notes }) ∙ ap (λ (l : List Note). let t : Ticket = record p { notes = l } in t)
-      (ap (λ w. Found w x ∷ found_list (mark_word d 0) (take at marks) p.notes) (let e : mark_word d at ≡ mark_word d 0 + length (take at marks) = omega (arith, taken marks at (omega arith)) in e)
+      (ap (λ w. Found w x ∷ found_list (mark_word d 0) (take at marks) p.notes) (let e : mark_word d at ≡ mark_word d 0 + length (take at marks) = omega (arith, length-take-le at marks (omega arith)) in e)
       ∙ (sym (found_snoc (mark_word d 0) (take at marks) x p.notes) ∙ ap (λ l. found_list (mark_word d 0) l p.notes) (sym (take_more_set marks at x (omega arith))))));
   each = λ k lt. subst (λ (l : List Note). get_or (set marks at x) k 0 ≡ best (mark_word d k) l) (sym (ap (λ (t : Ticket). t.notes) is)) (one k lt);
 }
   where
-    taken : (xs : List ℕ) (n : ℕ) → n ≤ length xs → length (take n xs) ≡ n
-    taken xs n le = Rattle.std.proofs.Common.length-take n xs le
-
     one : (k : ℕ) → k < at + 1 → get_or (set marks at x) k 0 ≡ best (mark_word d k) (Found (mark_word d at) x ∷ q.notes)
     one k lt = let long = r.long in dite (ℕ_discrete k at)
         (λ same. (let s = said_here (mark_word d k) (mark_word d at) x (omega arith) in let b = ap (λ z. best (mark_word d z) q.notes) same in
-        (ap (λ z. get_or (set marks at x) z 0) same ∙ Rattle.std.proofs.Common.get_or-set_same marks at x 0 (omega arith)) ∙ (let e : x ≡ max (said (mark_word d k) (Found (mark_word d at) x)) (best (mark_word d k) q.notes) = omega arith in e)))
+        (ap (λ z. get_or (set marks at x) z 0) same ∙ get_or-set_same marks at x 0 (omega arith)) ∙ (let e : x ≡ max (said (mark_word d k) (Found (mark_word d at) x)) (best (mark_word d k) q.notes) = omega arith in e)))
         (λ ne. (let s = said_else (mark_word d k) (mark_word d at) x (λ e. omega arith) in let old = r.each k (omega arith) in
-        Rattle.std.proofs.Common.get_or-set_other marks at k x 0 ne ∙ (let e : get_or marks k 0 ≡ max (said (mark_word d k) (Found (mark_word d at) x)) (best (mark_word d k) q.notes) = omega arith in e)))
+        get_or-set_other marks at k x 0 ne ∙ (let e : get_or marks k 0 ≡ max (said (mark_word d k) (Found (mark_word d at) x)) (best (mark_word d k) q.notes) = omega arith in e)))
 
 pub marks_all : (f : ℕ → ℕ) (w : ℕ) (xs : List ℕ) (n : ℕ) → length xs ≡ n → ((k : ℕ) → k < n → get_or xs k 0 ≡ f (w + k)) → xs ≡ marks_by f w n
 marks_all f w [] zero long each = refl
@@ -256,7 +253,7 @@ module _ (l : Lock) (dcs d : ℕ) (p q' : Ticket) (es : List Epoch) (mid : List 
   pub row_rounds : d < dcs → IsEpochList epochs
   row_rounds low = subst IsEpochList known (t.list low)
 
-module _ (l : Lock) (dcs d : ℕ) (p q : Ticket) (es : List Epoch) (at : ℕ) (r : IsRow l.round dcs d p q es at) (small : d < 8) where
+module _ (l : Lock) (dcs d : ℕ) (p q : Ticket) (es : List Epoch) (at : ℕ) (r : IsRow l.round dcs d p q es at) where
   abbrev row : List Note
   row = epochs_found d es p.notes
 
@@ -270,7 +267,7 @@ module _ (l : Lock) (dcs d : ℕ) (p q : Ticket) (es : List Epoch) (at : ℕ) (r
   pub full_listed : at ≡ 16 → IsListed l d p q (record { round = l.round; list = es })
   full_listed is = let count = r.count in row_listed l dcs d p q es row (r.told is) (r.kept ∙ ap (λ b. let t : Ticket = record p { notes = cond b (told l.round d row) row } in t) (full at is))
       (ap (λ b. told l.round d (cond b row (Ended (epoch_word d (length es)) (has datacentre d (stamped p.seen)) ∷ Found (epoch_word d (length es)) 0 ∷ row))) (sym (full (length es) (omega arith))))
-      (known_row l.round d row es (omega arith) each_known (λ lt. absurd (omega arith))) (found_settled l.round d (epoch_word d 0) (map (λ (e : Epoch). code (Some e)) es) p.notes) (found_marks d (map (λ (e : Epoch). code (Some e)) es) p.notes small)
+      (known_row l.round d row es (omega arith) each_known (λ lt. absurd (omega arith))) (found_settled l.round d (epoch_word d 0) (map (λ (e : Epoch). code (Some e)) es) p.notes) (found_marks d (map (λ (e : Epoch). code (Some e)) es) p.notes)
 
   pub full_rounds : at ≡ 16 → d < dcs → IsEpochList (record { round = l.round; list = es })
   full_rounds is low = let count = r.count in subst IsEpochList (known_row l.round d row es (omega arith) each_known (λ lt. absurd (omega arith))) ((r.told is).list low)
@@ -311,7 +308,7 @@ module _ (l : Lock) (dcs d : ℕ) (p q : Ticket) (es : List Epoch) (at : ℕ) (r
         (ap (told l.round d) mid_is ∙ ap (λ b. told l.round d (cond b row (Ended (epoch_word d (length es)) (has datacentre d (stamped p.seen)) ∷ Found (epoch_word d (length es)) 0 ∷ row))) (sym (not_full (length es) (omega arith))))
         mid_known
         (ap (λ (t : Ticket). settled l.round d t.notes) open_row ∙ found_settled l.round d (epoch_word d 0) (map (λ (e : Epoch). code (Some e)) es) p.notes)
-        (marks_same (λ w. best w mid) (λ w. best w row) (mark_word d 0) 16 (λ i a b. mid_best i) ∙ found_marks d (map (λ (e : Epoch). code (Some e)) es) p.notes small)
+        (marks_same (λ w. best w mid) (λ w. best w row) (mark_word d 0) 16 (λ i a b. mid_best i) ∙ found_marks d (map (λ (e : Epoch). code (Some e)) es) p.notes)
 
     pub end_rounds : d < dcs → IsEpochList (record { round = l.round; list = es })
     end_rounds low = subst IsEpochList mid_known (is_told.list low)
