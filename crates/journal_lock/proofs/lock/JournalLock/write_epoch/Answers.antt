@@ -33,6 +33,7 @@ unreachable-requires c =
 
 pub returns-then-holds_none-clause-noted : goal.returns-then-holds_none-clause-noted
 returns-then-holds_none-clause-noted c =
-    let round = c.args.self.now.round in let d = c.args.dc in let was = c.holds_none.ensures.same ∙ c.loop-at.invariant.0 in
-    let at_is : c.loop-at.at ≡ length (known_list round d c.args.pass.now.notes).list = (store_epoch-requires-clause-at c).1 ∙ ap (λ (t : Ticket). length (known_list round d t.notes).list) was in
+    let round = c.args.self.now.round in let d = c.args.dc in let at = c.loop-at.at in let same = c.holds_none.ensures.same in let was = same ∙ c.loop-at.invariant.0 in
+    let none = subst (λ (t : Ticket). best (epoch_word d at) t.notes ≡ 0) c.loop-at.invariant.0 (c.holds_none.ensures.none.0 c.if-holds_none.true) in
+    let at_is = known_ends round d at c.args.pass.now.notes c.loop-at.invariant.1 none in
     c.store_epoch.ensures.noted ∙ (λ i. record (was i) { notes = Found (epoch_word d (at_is i)) (code (Some c.args.epoch)) ∷ (was i).notes })
