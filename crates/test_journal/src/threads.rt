@@ -14,7 +14,7 @@ fn four_threads_push_at_once(rt: HostRuntime) -> Result<(), Fail> {
         dcs: 4,
         sessions: Seq::new(alloc),
     };
-    let (lock, mut pass) = JournalLock::new(alloc, workload, 1)?;
+    let (lock, mut pass) = JournalLock::new(alloc, workload, 1, &[1; 4])?;
     let second = DcId::new(1).ok_or("the second datacentre")?;
     let third = DcId::new(2).ok_or("the third datacentre")?;
     let fourth = DcId::new(3).ok_or("the fourth datacentre")?;
