@@ -23,7 +23,7 @@ no-refusal told status (inr is) = record { words = λ at. cc; script = λ at. cc
 
 of-refusal : (told : List ℕ → Type 0) (refusal : Refusal) → told (refusal_line refusal) → ((text : List ℕ) → refusal ≡ BadScript text → IsBadLine text) → TellsItsLine told (status_of refusal)
 of-refusal told Words line bad = record { words = λ _. line; script = λ at. cc; read_fault = λ at. cc; no_memory = λ at. cc }
-of-refusal told (BadScript text) line bad = record { words = λ at. cc; script = λ _. inl (text, (bad text refl, line)); read_fault = λ at. cc; no_memory = λ at. cc }
+of-refusal told (BadScript text) line bad = record { words = λ at. cc; script = λ _. inl (text, bad text refl, line); read_fault = λ at. cc; no_memory = λ at. cc }
 of-refusal told TooLong line bad = record { words = λ at. cc; script = λ _. inr line; read_fault = λ at. cc; no_memory = λ at. cc }
 of-refusal told ReadFault line bad = record { words = λ at. cc; script = λ at. cc; read_fault = λ _. line; no_memory = λ at. cc }
 of-refusal told NoMemory line bad = record { words = λ at. cc; script = λ at. cc; read_fault = λ at. cc; no_memory = λ _. line }
