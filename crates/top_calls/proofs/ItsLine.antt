@@ -10,7 +10,7 @@ use Rattle.command_line.specs.declared.task.Task.TheVariants.{Replay, Generate, 
 use Rattle.top_calls.specs.declared.done.Done.{Done}
 use Rattle.top_calls.specs.declared.done.Refusal.{Refusal}
 use Rattle.top_calls.specs.declared.done.Refusal.TheVariants.{Words, Script as BadScript, TooLong, ReadFault, NoMemory}
-use Rattle.top_calls.specs.Ending.{EndsFlStore, EndsGenerated, EndsReplay, EndsReport, EndsTask, EndsUnasked, IsBadLine, IsRefused, IsRefusedFor, IsReportStatus, TellsItsLine, WritesFront, refusal_line, status_of}
+use Rattle.top_calls.specs.Ending.{EndsFlStore, EndsGenerated, EndsReplay, EndsTask, IsBadLine, IsRefused, IsRefusedFor, IsReportStatus, TellsItsLine, WritesFront, refusal_line, status_of}
 use Rattle.top_calls.proofs.Counts.{report_status}
 
 -- At the status of a report there is none.
