@@ -10,7 +10,7 @@ use Rattle.command_line.specs.declared.task.Task.TheVariants.{Replay, Generate, 
 use Rattle.top_calls.specs.declared.done.Done.{Done}
 use Rattle.top_calls.specs.declared.done.Refusal.{Refusal}
 use Rattle.top_calls.specs.declared.done.Refusal.TheVariants.{Words, Script as BadScript, TooLong, ReadFault, NoMemory}
-use Rattle.top_calls.specs.Ending.{EndsFlStore, EndsGenerated, EndsReplay, EndsReport, EndsTask, EndsUnasked, IsBadLine, IsRefused, IsRefusedFor, IsReportStatus, TellsItsLine, WritesFront, refusal_line, status_of}
+use Rattle.top_calls.specs.Ending.{EndsFlStore, EndsGenerated, EndsReplay, EndsTask, IsBadLine, IsRefused, IsRefusedFor, IsReportStatus, TellsItsLine, WritesFront, refusal_line, status_of}
 use Rattle.top_calls.proofs.Counts.{report_status}
 
 -- At the status of a report there is none.
@@ -23,7 +23,7 @@ no-refusal told status (inr is) = record { words = λ at. cc; script = λ at. cc
 
 of-refusal : (told : List ℕ → Type 0) (refusal : Refusal) → told (refusal_line refusal) → ((text : List ℕ) → refusal ≡ BadScript text → IsBadLine text) → TellsItsLine told (status_of refusal)
 of-refusal told Words line bad = record { words = λ _. line; script = λ at. cc; read_fault = λ at. cc; no_memory = λ at. cc }
-of-refusal told (BadScript text) line bad = record { words = λ at. cc; script = λ _. inl (text, (bad text refl, line)); read_fault = λ at. cc; no_memory = λ at. cc }
+of-refusal told (BadScript text) line bad = record { words = λ at. cc; script = λ _. inl (text, bad text refl, line); read_fault = λ at. cc; no_memory = λ at. cc }
 of-refusal told TooLong line bad = record { words = λ at. cc; script = λ _. inr line; read_fault = λ at. cc; no_memory = λ at. cc }
 of-refusal told ReadFault line bad = record { words = λ at. cc; script = λ at. cc; read_fault = λ _. line; no_memory = λ at. cc }
 of-refusal told NoMemory line bad = record { words = λ at. cc; script = λ at. cc; read_fault = λ at. cc; no_memory = λ _. line }
