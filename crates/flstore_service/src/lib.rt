@@ -2,7 +2,7 @@
 //!
 //! **Model.** A script is its steps; the service is the list of its members, each an appender and a vector, with the
 //! epoch list, how many values came, and the greatest position given. `specs/Running` has one equation for each kind of
-//! step, and `run_of` is the run of a script. `specs/Reading` says which script lines spell.
+//! step, and `run_of` is the run of a script. `specs/Meaning` says which script lines spell.
 //!
 //! **Theorem.** The contracts of `flstore`, which gives exactly that run, of `read_flstore`, whose answer is exactly the
 //! script of the lines or the first bad line with its first cause, and of `fl_text`, whose bytes are those of the run.

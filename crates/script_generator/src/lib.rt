@@ -12,7 +12,7 @@
 //! preference for low numbers does not matter here, and a script is the same on every machine. Steps name members and
 //! packets that are there in most cases; what is not there makes an idle turn, as in any script.
 //!
-//! **Tests.** None here; the program's crate runs generated scripts.
+//! **Tests.** The crate `test_program` runs generated scripts.
 #![tactic(auto)]
 
 mod commands;

@@ -230,7 +230,7 @@ fn append(alloc: Global) -> Result<Command, Fail> {
     })
 }
 
-// One command of each kind, and a second read.
+// One command of each kind but a del, and a second read.
 fn commands(alloc: Global) -> Result<Seq<Command>, Fail> {
     let mut commands = Seq::new(alloc);
     commands.push(append(alloc)?)?;
@@ -265,7 +265,8 @@ fn one_append(alloc: Global) -> Result<Seq<Command>, Fail> {
     Ok(commands)
 }
 
-/// Two datacentres, and three sessions of the first: one with a command of each kind, and two that append.
+/// Two datacentres, and three sessions of the first: one with a command of each kind but a del, and two
+/// that append.
 pub(crate) fn workload(alloc: Global) -> Result<Workload, Fail>
     ensures { IfOk result (λ load. FitsWorkload load) }
 {

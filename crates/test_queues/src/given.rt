@@ -12,14 +12,14 @@ use std::alloc::Global;
 use std::process::Abort;
 use token_queue::{Queue, Stamp, StampFault, Token};
 
-// All rows are of three datacentres.
+/// All rows are of three datacentres.
 pub const DCS: u32 = 3;
 
-// No row has so many items or positions.
+/// No row has so many items or positions.
 pub const MANY: usize = 1000;
 
-// What goes into a queue, with how many records of each host it needs. A record's session is the
-// number of its host.
+/// What goes into a queue, with how many records of each host it needs. A record's session is the
+/// number of its host.
 pub enum Given {
     Draft {
         session: u32,
@@ -32,7 +32,7 @@ pub enum Given {
     },
 }
 
-// One of the three datacentres.
+/// One of the three datacentres: the first for a number from 3 on.
 pub fn dc(number: u32) -> DcId
     ensures { result < 3 }
 {
@@ -60,6 +60,7 @@ fn body(alloc: Global) -> Result<Body, NoMemory> {
     }
 }
 
+/// An append of a host, of session `host` there, that depends on `needs` records of each host.
 pub fn record(alloc: Global, host: u32, toid: Toid, needs: [u64; 3]) -> Result<Item, NoMemory>
     ensures { IfOk result (λ item. FitsItem 3 item) }
 {
@@ -97,6 +98,7 @@ fn item_of(alloc: Global, given: &Given) -> Result<Item, NoMemory>
     }
 }
 
+/// The items of a row, in its order.
 pub fn items_of(alloc: Global, given: &[Given]) -> Result<Seq<Item>, NoMemory>
     ensures { IfOk result (λ items. All (FitsItem 3) items) }
 {
@@ -152,7 +154,7 @@ fn try_stamp(queue: &mut Queue) -> Result<Seq<Stamp>, StampFault>
     queue.stamp()
 }
 
-// Stamps, and after want of memory once more: the queue is then as it was before.
+/// Stamps, and after want of memory once more: the queue is then as it was before.
 pub fn stamp(rt: &impl Abort, queue: &mut Queue) -> Result<Seq<Stamp>, StampFault>
     requires items { All (FitsItem 3) queue.old.items }
     requires few { length queue.old.items ≤ MANY }
@@ -169,7 +171,7 @@ pub fn stamp(rt: &impl Abort, queue: &mut Queue) -> Result<Seq<Stamp>, StampFaul
     }
 }
 
-// The items go into a queue that has none, after want of memory by a second call.
+/// The items go into a queue that has none, after want of memory by a second call.
 pub fn put(queue: &mut Queue, items: Seq<Item>) -> Result<(), NoMemory>
     requires { All (FitsItem 3) items }
     ensures items { OnOk result (All (FitsItem 3) queue.new.items) }
@@ -187,7 +189,7 @@ pub fn put(queue: &mut Queue, items: Seq<Item>) -> Result<(), NoMemory>
     }
 }
 
-// The token goes from one queue to another, if that has none. Answers which queue it named as the next.
+/// The token goes from one queue to another, if that has none. Answers which queue it named as the next.
 pub fn hand_on(from: &mut Queue, to: &mut Queue) -> Option<u32>
     ensures { to.new.items ≡ to.old.items }
 {

@@ -66,43 +66,62 @@ fn a_record_has_its_38_bytes(rt: HostRuntime) -> Result<(), Fail> {
     Ok(())
 }
 
-// The bytes of messages, and the place at which each is malformed.
-const MALFORMED: [(&[u8], usize); 5] = [
+// Messages that end before their number of records, and the place at which each is malformed.
+const CUT: [(&[u8], usize); 6] = [
     (&[], 0),
+    // The first byte says which form the message has, and there is one.
     (&[2], 0),
+    (&[3], 0),
     (&[1, 5], 1),
     (&[1, 0, 3], 2),
     (&[1, 0, 2, 0, 1], 4),
 ];
 
+// Messages that announce so many records, what follows, and the place at which each is malformed.
+const ANNOUNCED: [(u8, &[u8], usize); 8] = [
+    (17, &[], 35),
+    (0, &[0], 36),
+    (1, &[2, 1], 37),
+    // The number 0, the session 64, the kind 9, a dependency on itself, a tag of length 0.
+    (1, &[2, 0, 0, 0, 0, 0, 0, 0, 0, 0], 45),
+    (1, &[2, 0, 0, 0, 0, 0, 0, 0, 0, 1, 0, 64], 47),
+    (1, &[2, 0, 0, 0, 0, 0, 0, 0, 0, 1, 0, 0, 0, 0, 0, 1, 9], 52),
+    (
+        1,
+        &[
+            2, 0, 0, 0, 0, 0, 0, 0, 0, 1, 0, 0, 0, 0, 0, 1, 1, 0, 0, 0, 0, 0, 0, 0, 1,
+        ],
+        60,
+    ),
+    (
+        1,
+        &[
+            2, 0, 0, 0, 0, 0, 0, 0, 0, 1, 0, 0, 0, 0, 0, 1, 1, 0, 0, 0, 0, 0, 0, 0, 0, 0, 0, 0, 0,
+            0, 0, 0, 0, 1, 0,
+        ],
+        70,
+    ),
+];
+
 #[test]
 fn malformed_messages_are_told_at_their_place(rt: HostRuntime) -> Result<(), Fail> {
     let alloc = rt.alloc();
-    for row in &MALFORMED {
+    for row in &CUT {
         assert_eq!(rt; message_fault(alloc, row.0), Some(row.1));
     }
-    assert_eq!(rt; message_fault(alloc, &start(alloc, 17)?), Some(35));
-    let mut more = start(alloc, 0)?;
-    assert_eq!(rt; message_fault(alloc, &more), None);
-    more.push(0)?;
-    assert_eq!(rt; message_fault(alloc, &more), Some(36));
+    for row in &ANNOUNCED {
+        let mut bytes = start(alloc, row.0)?;
+        bytes.extend_from_slice(row.1)?;
+        assert_eq!(rt; message_fault(alloc, &bytes), Some(row.2));
+    }
+    assert_eq!(rt; message_fault(alloc, &start(alloc, 0)?), None);
     Ok(())
 }
 
+// A blank is no byte of a name, and none of a body.
 #[test]
-fn malformed_records_are_told_at_their_place(rt: HostRuntime) -> Result<(), Fail> {
+fn malformed_texts_are_told_at_their_place(rt: HostRuntime) -> Result<(), Fail> {
     let alloc = rt.alloc();
-    let other = with_record(alloc, &[2, 1])?;
-    assert_eq!(rt; message_fault(alloc, &other), Some(37));
-    for (place, byte, at) in [(9, 0, 45), (11, 64, 47), (16, 9, 52), (24, 1, 60)] {
-        let bytes = with_record(alloc, &changed(place, byte))?;
-        assert_eq!(rt; message_fault(alloc, &bytes), Some(at));
-    }
-    let mut tagged = with_record(alloc, &HEAD)?;
-    tagged.extend_from_slice(&[1, 0])?;
-    assert_eq!(rt; message_fault(alloc, &tagged), Some(70));
-
-    // A blank is no byte of a name, and none of a body.
     let mut named = with_record(alloc, &HEAD)?;
     named.extend_from_slice(&[1, 3, b'a', b' ', b'c'])?;
     assert_eq!(rt; message_fault(alloc, &named), Some(72));

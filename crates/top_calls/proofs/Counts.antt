@@ -34,9 +34,9 @@ report-cut : (w w' : Option (List ℕ)) (f f' : ℕ) (text : List ℕ) (status :
 report-cut w w' f f' text status (inl whole) more = absurd (omega (arith, whole.1.1, more))
 report-cut w w' f f' text status (inr cut) more = cut.0
 
-report-status : (w w' : Option (List ℕ)) (f f' : ℕ) (text : List ℕ) (status : ℕ) → EndsReport w w' f f' text status → IsReportStatus status
-report-status w w' f f' text status (inl whole) = inl whole.0
-report-status w w' f f' text status (inr cut) = inr cut.0
+pub report_status : (w w' : Option (List ℕ)) (f f' : ℕ) (text : List ℕ) (status : ℕ) → EndsReport w w' f f' text status → IsReportStatus status
+report_status w w' f f' text status (inl whole) = inl whole.0
+report_status w w' f f' text status (inr cut) = inr cut.0
 
 -- A refusal.
 
@@ -66,10 +66,10 @@ some-there (Some y) x is = refl
 -- What is told of a report or a refusal.
 
 told-run : (form : Form) (script : Script) (w w' : Option (List ℕ)) (f f' : ℕ) (done : Done) → IsReported form script w w' f f' done → IsSome done.run ↔ IsReportStatus done.status
-told-run form script w w' f f' done made = (λ _. report-status _ _ _ _ _ _ made.status, λ _. some-there _ _ made.run)
+told-run form script w w' f f' done made = (λ _. report_status _ _ _ _ _ _ made.status, λ _. some-there _ _ made.run)
 
 told-stages : (form : Form) (script : Script) (w w' : Option (List ℕ)) (f f' : ℕ) (done : Done) → IsReported form script w w' f f' done → IsSome done.stages ↔ IsReportStatus done.status
-told-stages form script w w' f f' done made = (λ _. report-status _ _ _ _ _ _ made.status, λ _. some-there _ _ made.stages)
+told-stages form script w w' f f' done made = (λ _. report_status _ _ _ _ _ _ made.status, λ _. some-there _ _ made.stages)
 
 untold-run : {such : Refusal → Type 0} (w w' : Option (List ℕ)) (f f' : ℕ) (done : Done) → IsRefused such w w' f f' done → IsSome done.run ↔ IsReportStatus done.status
 untold-run w w' f f' done refused = (λ some. absurd (none-there _ refused.no_run some), λ at. absurd (not-at w w' f f' done refused at))

@@ -8,7 +8,7 @@ ghost use Rattle.flstore_service.specs.Fits.{FitsFlScript};
 ghost use Rattle.flstore_service.specs.Meaning.{script_of};
 ghost use Rattle.flstore_service.specs.Running.{run_of};
 ghost use Rattle.flstore_service.specs.Text.{run_text};
-ghost use Rattle.top_calls.specs.Ending.{EndsFlStore, IsFlScript, IsNoFlScript, IsRefusedFor, StandsStill, WasRead, script_limit};
+ghost use Rattle.top_calls.specs.Ending.{EndsFlStore, IsFlScript, IsNoFlScript, IsRefusedFor, StandsStill, TellsItsLine, WasRead, WritesFront, script_limit};
 ghost use Rattle.top_calls.specs.Telling.{IsStoredOfSource};
 
 use crate::done::{Done, Refusal, bad_line, refuse, write_report};
@@ -25,6 +25,7 @@ pub fn flstore_run<S: Source, K: Sink>(alloc: Global, source: &mut S, sink: &mut
     ensures refused { result.status ≡ 3 → IsNoFlScript (S.left source.old) (S.left source.new) ⊎ Came (S.left source.old) (S.left source.new) (script_limit + 1) }
     ensures read_fault { result.status ≡ 4 → Rose (S.faults source.old) (S.faults source.new) }
     ensures write_fault { result.status ≡ 5 → Rose (K.faults sink.old) (K.faults sink.new) }
+    ensures line { TellsItsLine (WritesFront (K.written sink.old) (K.written sink.new) (K.faults sink.old) (K.faults sink.new)) result.status }
     ensures ended { EndsFlStore (S.left source.old) (S.left source.new) (S.faults source.old) (S.faults source.new)
         (K.written sink.old) (K.written sink.new) (K.faults sink.old) (K.faults sink.new) result }
 

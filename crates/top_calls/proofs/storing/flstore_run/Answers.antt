@@ -1,5 +1,6 @@
 use Rattle.top_calls.proofs.Complete.{flstore_asks, flstore_refused, flstore_read_failed, flstore_write_failed, flstore_complete}
 use Rattle.top_calls.proofs.Counts.{flstore_untold, flstore_kept, flstore_at_fault, still_shows_none}
+use Rattle.top_calls.proofs.ItsLine.{flstore_line}
 use Rattle.top_calls.proofs.storing.flstore_run.Goals as goal
 
 pub returns-clause-words : goal.returns-clause-words
@@ -13,6 +14,9 @@ returns-clause-read_fault g c = flstore_read_failed _ _ _ _ _ _ _ _ _ c.store_an
 
 pub returns-clause-write_fault : goal.returns-clause-write_fault
 returns-clause-write_fault g c = flstore_write_failed _ _ _ _ _ _ _ _ _ c.store_and_report.ensures
+
+pub returns-clause-line : goal.returns-clause-line
+returns-clause-line g c = flstore_line _ _ _ _ _ _ _ _ _ c.store_and_report.ensures
 
 pub returns-clause-run : goal.returns-clause-run
 returns-clause-run g c = flstore_untold _ _ _ _ _ _ _ _ _ c.store_and_report.ensures

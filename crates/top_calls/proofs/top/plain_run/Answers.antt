@@ -1,5 +1,6 @@
 use Rattle.top_calls.proofs.Complete.{complete, generated_complete, stored_complete, words_asked, unasked, script_refused, read_failed, write_failed}
 use Rattle.top_calls.proofs.Counts.{run_told, stages_told, kept, at_fault, report_fault, still_shows_none}
+use Rattle.top_calls.proofs.ItsLine.{its_line}
 use Rattle.top_calls.proofs.top.plain_run.Goals as goal
 
 pub returns-clause-words : goal.returns-clause-words
@@ -16,6 +17,9 @@ returns-clause-read_fault g c = read_failed _ _ _ _ _ _ _ _ _ _ c.do_asked.ensur
 
 pub returns-clause-write_fault : goal.returns-clause-write_fault
 returns-clause-write_fault g c = write_failed _ _ _ _ _ _ _ _ _ _ c.do_asked.ensures
+
+pub returns-clause-line : goal.returns-clause-line
+returns-clause-line g c = its_line _ _ _ _ _ _ _ _ _ _ c.do_asked.ensures
 
 pub returns-clause-run : goal.returns-clause-run
 returns-clause-run g c = run_told _ _ _ _ _ _ _ _ _ _ c.do_asked.ensures

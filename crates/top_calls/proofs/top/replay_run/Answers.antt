@@ -1,5 +1,6 @@
 use Rattle.top_calls.proofs.Complete.{replay_asks, replay_refused, replay_read_failed, replay_write_failed, replay_complete}
 use Rattle.top_calls.proofs.Counts.{replay_run_told, replay_stages_told, replay_kept, replay_at_fault, replay_report_fault, still_shows_none}
+use Rattle.top_calls.proofs.ItsLine.{replay_line}
 use Rattle.top_calls.proofs.top.replay_run.Goals as goal
 
 pub returns-clause-words : goal.returns-clause-words
@@ -13,6 +14,9 @@ returns-clause-read_fault g c = replay_read_failed _ _ _ _ _ _ _ _ _ _ c.replay_
 
 pub returns-clause-write_fault : goal.returns-clause-write_fault
 returns-clause-write_fault g c = replay_write_failed _ _ _ _ _ _ _ _ _ _ c.replay_and_report.ensures
+
+pub returns-clause-line : goal.returns-clause-line
+returns-clause-line g c = replay_line _ _ _ _ _ _ _ _ _ _ c.replay_and_report.ensures
 
 pub returns-clause-run : goal.returns-clause-run
 returns-clause-run g c = replay_run_told _ _ _ _ _ _ _ _ _ _ c.replay_and_report.ensures
