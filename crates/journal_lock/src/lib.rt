@@ -19,9 +19,9 @@
 //! the rule. The workload stands in each pass too, since a step cannot read what the table was told. Duties move by
 //! numbers, which are different for different duties where datacentres are below 8 and members below 16.
 //!
-//! Not here yet: what is known of heads; pins. A lock begins without epochs, and with marks of 0.
+//! Not here yet: pins, and a look at all epochs of a datacentre as one list.
 //!
-//! `both` has a contract of two threads. There are no tests in this crate.
+//! `both` has a contract of two threads. Tests: the crate `test_journal`.
 #![tactic(auto)]
 
 mod both;
