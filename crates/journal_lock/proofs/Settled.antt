@@ -226,10 +226,10 @@ reaches_later : (round e : ℕ) (words words' : List ℕ) (P : ℕ → ℕ → T
     → (d m v : ℕ) → Reaches (list_at round words d) (P d) m v → Reaches (list_at round words' d) (P d) m v
 reaches_later round e words words' P n above here else d m v r = dite (ℕ_discrete d e)
     (λ same. ⊎_elim inl (λ (q : (p : ℕ) × (v ≡ p + 1) × P d p × (owner (list_at round words d) p ≡ m)). (
-        let T : EpochList = list_at round words e in let low : q.0 < n.start = above q.0 (subst (λ z. P z q.0) same q.2) in
-        let settles : All (λ (x : Epoch). q.0 < x.start) (later_than T (with_epoch T n)) = All-later_more (λ (x : Epoch). q.0 < x.start) T T n (prefix_refl T) (All-same (λ (x : Epoch). q.0 < x.start) (later_than T T) [] (drop_all (length T.list) T.list (omega arith)) (All-nil (λ (x : Epoch). q.0 < x.start))) low in
-        let deals = owner-prefix T (with_epoch T n) q.0 (prefix_more T T n (prefix_refl T)) settles in
-        inr (q.0, q.1, q.2, ap (λ z. owner (list_at round words' z) q.0) same ∙ (ap (λ (l : EpochList). owner l q.0) here ∙ (sym deals ∙ (ap (λ z. owner (list_at round words z) q.0) (sym same) ∙ q.3)))))) r)
+    let T : EpochList = list_at round words e in let low : q.0 < n.start = above q.0 (subst (λ z. P z q.0) same q.2) in
+    let settles : All (λ (x : Epoch). q.0 < x.start) (later_than T (with_epoch T n)) = All-later_more (λ (x : Epoch). q.0 < x.start) T T n (prefix_refl T) (All-same (λ (x : Epoch). q.0 < x.start) (later_than T T) [] (drop_all (length T.list) T.list (omega arith)) (All-nil (λ (x : Epoch). q.0 < x.start))) low in
+    let deals = owner-prefix T (with_epoch T n) q.0 (prefix_more T T n (prefix_refl T)) settles in
+    inr (q.0, q.1, q.2, ap (λ z. owner (list_at round words' z) q.0) same ∙ (ap (λ (l : EpochList). owner l q.0) here ∙ (sym deals ∙ (ap (λ z. owner (list_at round words z) q.0) (sym same) ∙ q.3)))))) r)
     (λ ne. subst (λ (l : EpochList). Reaches l (P d) m v) (else d ne) r)
 
 -- an epoch that starts above all that is placed leaves a note true
@@ -285,7 +285,7 @@ module _ (dcs round : ℕ) (words : List ℕ) (qs : List (List Position)) (ns : 
       let last : at_word words' (epoch_word e 0 + k) ≡ new = ap (at_word words') (at k ∙ sym is) ∙ here in
       let grown : list_at round words' e ≡ with_epoch (list_at round words e) n =
       ap (λ (l : List Epoch). let t : EpochList = record { round = round; list = l } in t) (epochs_more (at_word words) (at_word words') (epoch_word e 0) k 16 (λ i ne. sym (there i (λ q. ne (q ∙ (is ∙ sym (at k))))))
-          (λ j lt. (let b = before j lt in let q = ap (at_word words) (at j) in omega arith)) (λ j le lt. ap (at_word words) (at j) ∙ after j le lt) (omega arith) few ∙ ap (λ v. epochs_by (at_word words) (epoch_word e 0) 16 ++ epoch_of v ∷ []) last) in
+      (λ j lt. (let b = before j lt in let q = ap (at_word words) (at j) in omega arith)) (λ j le lt. ap (at_word words) (at j) ∙ after j le lt) (omega arith) few ∙ ap (λ v. epochs_by (at_word words) (epoch_word e 0) 16 ++ epoch_of v ∷ []) last) in
       let else : (d : ℕ) → d ≢ e → list_at round words d ≡ list_at round words' d = λ d ne. list_same round d (at_word words) (at_word words') (λ i a b. sym (there i (λ z. omega arith))) in record {
         lists = λ d low. dite (ℕ_discrete d e) (λ same. subst (λ z. IsEpochList (list_at round words' z)) (sym same) (subst IsEpochList (sym grown) list)) (λ ne. subst IsEpochList (else d ne) (r.lists d low));
         reached = λ d m a b. subst (Reaches (list_at round words' d) (IsPlaced qs d) m) (sym (there (mark_word d m) (λ z. omega arith))) (reaches_later round e words words' (IsPlaced qs) n above grown else d m (at_word words (mark_word d m)) (r.reached d m a b));
@@ -326,7 +326,7 @@ known_next round d k e notes is low none few some_members =
     let else : (i : ℕ) → i ≢ base + k → f i ≡ g i = λ i ne. (let gone : said i (Found w x) ≡ 0 = said_else i w x (λ q. ne (sym q ∙ sym (at k))) in omega arith) in
     let starts : x / 32 ≡ e.start = omega arith in let members : x % 32 ≡ e.members = omega arith in let decoded : epoch_of x ≡ e = (λ i. record { start = starts i; members = members i }) in
     ap (λ (l : List Epoch). let t : EpochList = record { round = round; list = l } in t) (epochs_more f g base k 16 else
-        (λ j lt. epochs_some f base 16 j (omega arith)) (λ j le lt. ap f (at j) ∙ none j le lt) (omega arith) low ∙ ap (λ (z : Epoch). epochs_by f base 16 ++ z ∷ []) (ap epoch_of last ∙ decoded))
+    (λ j lt. epochs_some f base 16 j (omega arith)) (λ j le lt. ap f (at j) ∙ none j le lt) (omega arith) low ∙ ap (λ (z : Epoch). epochs_by f base 16 ++ z ∷ []) (ap epoch_of last ∙ decoded))
   where
     said_else : (i w x : ℕ) → (w ≡ i → ⊥) → said i (Found w x) ≡ 0
     said_else i w x ne = grind (arith, nat_tests)

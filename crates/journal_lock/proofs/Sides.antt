@@ -125,36 +125,36 @@ module _ (dcs round : ℕ) (log : List Event) (words : List ℕ) (views : List V
       → Sides dcs round log words (set views id (kept ds hand placed v) ++ given ds hand placed v ∷ [])
   split_sides ds hand placed among a b mine other = let w : View = kept ds hand placed v in let g : View = given ds hand placed v in
       let more : (y : ℕ) → placed_by y (map placed_of views) ≤ placed_by y (map placed_of (set views id w ++ g ∷ [])) = (λ y. (let e = ap (placed_by y) (map-append placed_of (set views id w) (g ∷ []) ∙ ap (λ l. l ++ placed_of g ∷ []) (map-set placed_of views id w)) in
-        omega (arith, has_minus place v.names.placed placed b y, total_snoc (λ (q : List Position). has place y q) (set (map placed_of views) id (placed_of w)) (placed_of g), total_set (λ (q : List Position). has place y q) (map placed_of views) id (placed_of v) (placed_of w) (at_map placed_of views id v at)))) in record {
-    marked = marks.moves round words (map placed_of views) r.marked words (map placed_of (set views id w ++ g ∷ [])) (λ u le. refl) more;
-    paired = moved words (set views id w ++ g ∷ []) (λ u le. refl) more (subst (EachNote Fact) (sym (map-append notes_of (set views id w) (g ∷ []) ∙ ap (λ l. l ++ notes_of g ∷ []) (map-set notes_of views id w))) (each_split Fact (map notes_of views) r.paired.each id (notes_of v) (at_map notes_of views id v at)));
-    found = subst (Worded log words) (sym (map-append finding_of (set views id w) (g ∷ []) ∙ ap (λ l. l ++ finding_of g ∷ []) (map-set finding_of views id w)))
-        (finds.splits log words (map finding_of views) r.found id (finding_of v) (at_map finding_of views id v at) ds among);
-    noted = subst (Noted log) (sym (map-append notes_of (set views id w) (g ∷ []) ∙ ap (λ l. l ++ notes_of g ∷ []) (map-set notes_of views id w)))
-        (each_split (IsTrue log) (map notes_of views) r.noted id (notes_of v) (at_map notes_of views id v at));
-    named = subst (Named log) (sym (map-append naming_of (set views id w) (g ∷ []) ∙ ap (λ l. l ++ naming_of g ∷ []) (map-set naming_of views id w)))
-        (places.splits log (map naming_of views) r.named id (naming_of v) (at_map naming_of views id v at) ds hand placed a b mine other);
-  }
+      omega (arith, has_minus place v.names.placed placed b y, total_snoc (λ (q : List Position). has place y q) (set (map placed_of views) id (placed_of w)) (placed_of g), total_set (λ (q : List Position). has place y q) (map placed_of views) id (placed_of v) (placed_of w) (at_map placed_of views id v at)))) in record {
+        marked = marks.moves round words (map placed_of views) r.marked words (map placed_of (set views id w ++ g ∷ [])) (λ u le. refl) more;
+        paired = moved words (set views id w ++ g ∷ []) (λ u le. refl) more (subst (EachNote Fact) (sym (map-append notes_of (set views id w) (g ∷ []) ∙ ap (λ l. l ++ notes_of g ∷ []) (map-set notes_of views id w))) (each_split Fact (map notes_of views) r.paired.each id (notes_of v) (at_map notes_of views id v at)));
+        found = subst (Worded log words) (sym (map-append finding_of (set views id w) (g ∷ []) ∙ ap (λ l. l ++ finding_of g ∷ []) (map-set finding_of views id w)))
+            (finds.splits log words (map finding_of views) r.found id (finding_of v) (at_map finding_of views id v at) ds among);
+        noted = subst (Noted log) (sym (map-append notes_of (set views id w) (g ∷ []) ∙ ap (λ l. l ++ notes_of g ∷ []) (map-set notes_of views id w)))
+            (each_split (IsTrue log) (map notes_of views) r.noted id (notes_of v) (at_map notes_of views id v at));
+        named = subst (Named log) (sym (map-append naming_of (set views id w) (g ∷ []) ∙ ap (λ l. l ++ naming_of g ∷ []) (map-set naming_of views id w)))
+            (places.splits log (map naming_of views) r.named id (naming_of v) (at_map naming_of views id v at) ds hand placed a b mine other);
+      }
 
   pub join_sides : (other : ℕ) (w : View) → IsPrefix v.hold.now.seen (longer v.hold.now.seen w.hold.now.seen) → IsPrefix w.hold.now.seen (longer v.hold.now.seen w.hold.now.seen) → other ≢ id → get_elem? (set views id (joined v w)) other ≡ some w → Sides dcs round log words (set (set views id (joined v w)) other spent)
   join_sides other w left right apart there = let j : View = joined v w in let vs : List View = set views id j in let a = map-set notes_of views id j in let c = map-set naming_of views id j in let d = map-set finding_of views id j in let p = map-set placed_of views id j in
       let more : (y : ℕ) → placed_by y (map placed_of views) ≤ placed_by y (map placed_of (set vs other spent)) = (λ y. (let e = ap (placed_by y) (map-set placed_of vs other spent ∙ ap (λ l. set l other []) p) in
-        omega (
-          arith,
-          has_append place y v.names.placed w.names.placed,
-          total_set (λ (q : List Position). has place y q) (map placed_of views) id (placed_of v) (placed_of j) (at_map placed_of views id v at),
-          total_set (λ (q : List Position). has place y q) (set (map placed_of views) id (placed_of j)) other (placed_of w) [] (subst (λ l. get_elem? l other ≡ some (placed_of w)) p (at_map placed_of vs other w there)),
-        ))) in record {
-    marked = marks.moves round words (map placed_of views) r.marked words (map placed_of (set vs other spent)) (λ u le. refl) more;
-    paired = moved words (set vs other spent) (λ u le. refl) more (subst (EachNote Fact) (sym (map-set notes_of vs other spent ∙ ap (λ l. set l other []) a))
-        (each_join Fact (map notes_of views) r.paired.each id (notes_of v) (at_map notes_of views id v at) other (notes_of w) apart (subst (λ l. get_elem? l other ≡ some (notes_of w)) a (at_map notes_of vs other w there))));
-    found = subst (Worded log words) (sym (map-set finding_of vs other spent ∙ ap (λ l. set l other ([], [])) d))
-        (finds.joins log words (map finding_of views) r.found id (finding_of v) (at_map finding_of views id v at) other (finding_of w) apart (subst (λ l. get_elem? l other ≡ some (finding_of w)) d (at_map finding_of vs other w there)));
-    noted = subst (Noted log) (sym (map-set notes_of vs other spent ∙ ap (λ l. set l other []) a))
-        (each_join (IsTrue log) (map notes_of views) r.noted id (notes_of v) (at_map notes_of views id v at) other (notes_of w) apart (subst (λ l. get_elem? l other ≡ some (notes_of w)) a (at_map notes_of vs other w there)));
-    named = subst (Named log) (sym (map-set naming_of vs other spent ∙ ap (λ l. set l other ([], [], names [] [])) c))
-        (places.joins log (map naming_of views) r.named id (naming_of v) (at_map naming_of views id v at) other (naming_of w) (longer v.hold.now.seen w.hold.now.seen) left right apart (subst (λ l. get_elem? l other ≡ some (naming_of w)) c (at_map naming_of vs other w there)));
-  }
+      omega (
+        arith,
+        has_append place y v.names.placed w.names.placed,
+        total_set (λ (q : List Position). has place y q) (map placed_of views) id (placed_of v) (placed_of j) (at_map placed_of views id v at),
+        total_set (λ (q : List Position). has place y q) (set (map placed_of views) id (placed_of j)) other (placed_of w) [] (subst (λ l. get_elem? l other ≡ some (placed_of w)) p (at_map placed_of vs other w there)),
+      ))) in record {
+        marked = marks.moves round words (map placed_of views) r.marked words (map placed_of (set vs other spent)) (λ u le. refl) more;
+        paired = moved words (set vs other spent) (λ u le. refl) more (subst (EachNote Fact) (sym (map-set notes_of vs other spent ∙ ap (λ l. set l other []) a))
+            (each_join Fact (map notes_of views) r.paired.each id (notes_of v) (at_map notes_of views id v at) other (notes_of w) apart (subst (λ l. get_elem? l other ≡ some (notes_of w)) a (at_map notes_of vs other w there))));
+        found = subst (Worded log words) (sym (map-set finding_of vs other spent ∙ ap (λ l. set l other ([], [])) d))
+            (finds.joins log words (map finding_of views) r.found id (finding_of v) (at_map finding_of views id v at) other (finding_of w) apart (subst (λ l. get_elem? l other ≡ some (finding_of w)) d (at_map finding_of vs other w there)));
+        noted = subst (Noted log) (sym (map-set notes_of vs other spent ∙ ap (λ l. set l other []) a))
+            (each_join (IsTrue log) (map notes_of views) r.noted id (notes_of v) (at_map notes_of views id v at) other (notes_of w) apart (subst (λ l. get_elem? l other ≡ some (notes_of w)) a (at_map notes_of vs other w there)));
+        named = subst (Named log) (sym (map-set naming_of vs other spent ∙ ap (λ l. set l other ([], [], names [] [])) c))
+            (places.joins log (map naming_of views) r.named id (naming_of v) (at_map naming_of views id v at) other (naming_of w) (longer v.hold.now.seen w.hold.now.seen) left right apart (subst (λ l. get_elem? l other ≡ some (naming_of w)) c (at_map naming_of vs other w there)));
+      }
 
   all_true : (j : ℕ) (x : Finding) → get_elem? (map finding_of views) j ≡ some x → AllTrue log x.1
   all_true j x e = let u = at_unmap finding_of views j x e in subst (λ (z : Finding). AllTrue log z.1) u.2 (r.noted j (notes_of u.0) (at_map notes_of views j u.0 u.1))

@@ -106,8 +106,8 @@ epochs_more f g w k n same some none last low =
     let old : epochs_by f w n ≡ epochs_by f w k = epochs_stop f w k n some (none k (omega arith) low) low in
     let next : epochs_by g w (suc k) ≡ epochs_by g w k ++ epoch_of (g (w + k)) ∷ [] = epochs_next g w k some' last in
     let end : epochs_by g w n ≡ epochs_by g w (suc k) = dite (ℕ_discrete (suc k) n) (λ e. ap (epochs_by g w) (sym e))
-        (λ ne. epochs_stop g w (suc k) n (λ j lt. dite (ℕ_discrete j k) (λ e. (let q : g (w + j) ≡ g (w + k) = ap (λ z. g (w + z)) e in omega arith)) (λ other. some' j (omega arith)))
-        (sym (same (w + suc k) (λ e. omega arith)) ∙ none (suc k) (omega arith) (omega arith)) (omega arith)) in
+    (λ ne. epochs_stop g w (suc k) n (λ j lt. dite (ℕ_discrete j k) (λ e. (let q : g (w + j) ≡ g (w + k) = ap (λ z. g (w + z)) e in omega arith)) (λ other. some' j (omega arith)))
+    (sym (same (w + suc k) (λ e. omega arith)) ∙ none (suc k) (omega arith) (omega arith)) (omega arith)) in
     end ∙ (next ∙ ap (λ l. l ++ epoch_of (g (w + k)) ∷ []) (before ∙ sym old))
 
 -- epochs that all start above p

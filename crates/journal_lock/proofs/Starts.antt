@@ -111,15 +111,18 @@ module _ (load : Workload) (round : ℕ) (ns : List ℕ) (fits : FitsWorkload lo
   stand = all_first (Stands words) round 0 ns (λ i e at low. (let few = fits.few in let here = of_first e (omega arith) in let same = ap (λ z. get_or ns z 0) at in (
     (omega (arith, length-replicate {A = ℕ} 16 1), omega arith, λ m inside. omega (arith, get_or-replicate {A = ℕ} 16 m 1 0 inside, of_mark e m (omega arith) inside)),
     (λ d k j is_word le lt. inl (of_later d j (omega arith) (omega arith) lt)),
-    (omega arith, (let q : get_or ns e 0 ≡ get_or ns i 0 = same ∙ ap (λ z. get_or ns z 0) (let p : 0 + i ≡ i = omega arith in p) in omega arith),
-    λ high more. (let q : get_or ns e 0 ≡ get_or ns i 0 = same ∙ ap (λ z. get_or ns z 0) (let p : 0 + i ≡ i = omega arith in p) in omega arith)),
+    (
+      omega arith,
+      (let q : get_or ns e 0 ≡ get_or ns i 0 = same ∙ ap (λ z. get_or ns z 0) (let p : 0 + i ≡ i = omega arith in p) in omega arith),
+      λ high more. (let q : get_or ns e 0 ≡ get_or ns i 0 = same ∙ ap (λ z. get_or ns z 0) (let p : 0 + i ≡ i = omega arith in p) in omega arith),
+    ),
   )))
 
   -- an epoch that there is not holds none, and one that there is the pass knows
   known_word : (d k : ℕ) → d < 8 → k < 16 → at_word words (epoch_word d k) ≡ best (epoch_word d k) notes
   known_word d k small few = let low = best_low words (epoch_word d k) notes stand in dite (ℕ_discrete k 0)
       (λ z. (let e : epoch_word d k ≡ epoch_word d 0 = ap (epoch_word d) z in let a = ap (at_word words) e in let b = ap (λ w. best w notes) e in
-        dite (dec_le load.dcs d) (λ past. omega (arith, of_none d small past))
+      dite (dec_le load.dcs d) (λ past. omega (arith, of_none d small past))
       (λ inside. (let f = first_found round 0 ns d (omega arith) in let c : best (epoch_word (0 + d) 0) notes ≡ best (epoch_word d 0) notes = ap (λ w. best w notes) (let q : epoch_word (0 + d) 0 ≡ epoch_word d 0 = omega arith in q) in omega (arith, of_first d (omega arith))))))
       (λ ne. omega (arith, of_later d k small (omega arith) few))
 

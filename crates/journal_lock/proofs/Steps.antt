@@ -330,13 +330,12 @@ module _ (load : Workload) (round : ℕ) (slots id : ℕ) (m : Sat) where
         tt,
         aside s r w x m.0 (omega arith) at refl (subst (λ (z : List ℕ × List View). Sides load.dcs round r.log z.0 z.1) (λ i. (sym (set-get_or s.words w 0) i, sym (set_again s.views id m.0 at) i)) r.sides),
         (
-          (λ duty. (let token = subst (λ z. 0 < has number z m.0.hold.now.duties) (ap guard is ∙ guard_epoch d k (omega arith)) duty in
-            (
-              f.own w (omega arith) duty,
-              subst IsEpochList (sym (own_list s r at d token)) (r.sides.paired.lists d (has_place load d 0 (number (Token d)) (omega arith) (omega arith) (omega arith) (exists s r at (number (Token d)) token))),
-              (λ none_here j le lt. (let gone = r.sides.found.rows d k j (omega arith) (omega arith) lt (ap (λ i. get_or s.words i 0) (sym is) ∙ none_here) in
-              sym (f.own (epoch_word d j) (omega arith) (subst (λ z. 0 < has number z m.0.hold.now.duties) (sym (guard_epoch d j lt)) token)) ∙ gone)),
-            ))),
+          (λ duty. (let token = subst (λ z. 0 < has number z m.0.hold.now.duties) (ap guard is ∙ guard_epoch d k (omega arith)) duty in (
+            f.own w (omega arith) duty,
+            subst IsEpochList (sym (own_list s r at d token)) (r.sides.paired.lists d (has_place load d 0 (number (Token d)) (omega arith) (omega arith) (omega arith) (exists s r at (number (Token d)) token))),
+            (λ none_here j le lt. (let gone = r.sides.found.rows d k j (omega arith) (omega arith) lt (ap (λ i. get_or s.words i 0) (sym is) ∙ none_here) in
+                sym (f.own (epoch_word d j) (omega arith) (subst (λ z. 0 < has number z m.0.hold.now.duties) (sym (guard_epoch d j lt)) token)) ∙ gone)),
+          ))),
           refl,
         ),
       )

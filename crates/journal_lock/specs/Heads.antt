@@ -110,7 +110,7 @@ Tells load round st m found m' =
 abbrev pub Sees : ℕ → Step (Option Book) → Sat → ℕ → Sat → Type 0
 Sees round st m found m' =
     (0 < has number (guard st.word) m.0.hold.now.duties
-      → (found ≡ best st.word m.0.notes) × IsEpochList (known_list round (dc_of st.word) m.0.notes) × (found ≡ 0 → (j : ℕ) → st.word ≤ epoch_word (dc_of st.word) j → j < MEMBERS → best (epoch_word (dc_of st.word) j) m.0.notes ≡ 0))
+    → (found ≡ best st.word m.0.notes) × IsEpochList (known_list round (dc_of st.word) m.0.notes) × (found ≡ 0 → (j : ℕ) → st.word ≤ epoch_word (dc_of st.word) j → j < MEMBERS → best (epoch_word (dc_of st.word) j) m.0.notes ≡ 0))
     × (m' ≡ m)
 
 -- a mark was raised: the pass tells of it with the list that it knows

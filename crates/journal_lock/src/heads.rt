@@ -132,11 +132,9 @@ impl JournalLock {
         ensures noted { pass.new ≡ record pass.old { notes = Found (epoch_word dc at) (code (Some epoch)) ∷ pass.old.notes } }
         ensures last { known_list self.now.round dc pass.new.notes ≡ with_epoch (known_list self.now.round dc pass.old.notes) epoch }
     {
-        self.table.shared.store::<Write>(
-            &mut pass.seat,
-            epoch_place(dc, at),
-            to_word(epoch),
-        );
+        self.table
+            .shared
+            .store::<Write>(&mut pass.seat, epoch_place(dc, at), to_word(epoch));
     }
 
     /// The head of a datacentre's log by its marks and its epochs as they are found, first those and then these. It is no

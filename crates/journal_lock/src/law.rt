@@ -39,14 +39,25 @@ pub struct Hold {
 /// What a pass was told, which stays true. No value of it is made.
 pub enum Note {
     /// The journal had so many events.
-    Met { count: u64 },
+    Met {
+        count: u64,
+    },
     /// The log of a datacentre had so many records.
-    Length { dc: DcId, len: u64 },
+    Length {
+        dc: DcId,
+        len: u64,
+    },
     /// A word of marks or epochs held so much.
-    Found { word: u64, value: u64 },
+    Found {
+        word: u64,
+        value: u64,
+    },
     /// The word of an epoch held none when the log of its datacentre had so many records, so that each epoch that goes
     /// there or later starts above them.
-    Ended { word: u64, len: u64 },
+    Ended {
+        word: u64,
+        len: u64,
+    },
     /// So the epochs of a datacentre and marks of its maintainers stand to one another: each position below the mark of
     /// its owner is placed, and later epochs start at these marks or above them.
     Told {

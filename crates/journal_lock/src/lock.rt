@@ -230,9 +230,7 @@ impl JournalLock {
     {
         let Pass { seat, failed } = other;
         self.table.shared.join_seat::<Glue>(&mut pass.seat, seat);
-        self.table
-            .shared
-            .load::<Learn<C>>(&mut pass.seat, COUNT);
+        self.table.shared.load::<Learn<C>>(&mut pass.seat, COUNT);
         pass.failed = pass.failed || failed;
     }
 
