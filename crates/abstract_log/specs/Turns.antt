@@ -3,33 +3,34 @@ use Rattle.std.specs.Prelude.{⊤, ℕ, ◌≢◌, ◌<◌, ◌≤◌, ◌^◌, 
 use Rattle.cz_base.specs.declared.limits.TheConstants.{MEMBERS, PACKETS, NUMBERS_END}
 use Rattle.abstract_log.specs.declared.command.Workload.{Workload}
 use Rattle.abstract_log.specs.declared.script.Step.{Step}
-use Rattle.abstract_log.specs.declared.script.Step.TheVariants.{Client, Flush, Pass, Stamp, Token, Place, Gossip, Post, Learn, Send, Deliver, Lose, Copy, Floor, Collect, Announce, Mark, AddMaintainer, AddBatcher, AddQueue, AddSender, AddReceiver}
+use Rattle.abstract_log.specs.declared.script.Step.TheVariants.{Client, Flush, Pass, Stamp, Token, Place, Gossip, Post, Learn, Send, Deliver, Lose, Copy, Floor, Collect, Announce, Mark, AddMaintainer, AddBatcher, AddQueue, AddSender, AddReceiver, Upgrade}
 use Rattle.abstract_log.specs.Worlds.{plan_of}
 
 -- the datacentre whose stage takes the turn
-abbrev pub place_of_step : Workload → Step → ℕ
-place_of_step load (Client s) = (plan_of load s).home
-place_of_step load (Flush d b) = d
-place_of_step load (Pass d f q) = d
-place_of_step load (Stamp d q) = d
-place_of_step load (Token d) = d
-place_of_step load (Place d q m) = d
-place_of_step load (Gossip d m k) = d
-place_of_step load (Post d m i) = d
-place_of_step load (Learn d) = d
-place_of_step load (Send d k e) = d
-place_of_step load (Deliver d e k r) = e
-place_of_step load (Lose d e k) = d
-place_of_step load (Copy d e k) = d
-place_of_step load (Floor d p) = d
-place_of_step load (Collect d m) = d
-place_of_step load (Announce d h t) = d
-place_of_step load (Mark d) = d
-place_of_step load (AddMaintainer d p) = d
-place_of_step load (AddBatcher d) = d
-place_of_step load (AddQueue d) = d
-place_of_step load (AddSender d) = d
-place_of_step load (AddReceiver d) = d
+abbrev pub datacentre_of_step : Workload → Step → ℕ
+datacentre_of_step load (Client s) = (plan_of load s).home
+datacentre_of_step load (Flush d b) = d
+datacentre_of_step load (Pass d f q) = d
+datacentre_of_step load (Stamp d q) = d
+datacentre_of_step load (Token d) = d
+datacentre_of_step load (Place d q m) = d
+datacentre_of_step load (Gossip d m k) = d
+datacentre_of_step load (Post d m i) = d
+datacentre_of_step load (Learn d) = d
+datacentre_of_step load (Send d k e) = d
+datacentre_of_step load (Deliver d e k r) = e
+datacentre_of_step load (Lose d e k) = d
+datacentre_of_step load (Copy d e k) = d
+datacentre_of_step load (Floor d p) = d
+datacentre_of_step load (Collect d m) = d
+datacentre_of_step load (Announce d h t) = d
+datacentre_of_step load (Mark d) = d
+datacentre_of_step load (AddMaintainer d p) = d
+datacentre_of_step load (AddBatcher d) = d
+datacentre_of_step load (AddQueue d) = d
+datacentre_of_step load (AddSender d) = d
+datacentre_of_step load (AddReceiver d) = d
+datacentre_of_step load (Upgrade d) = d
 
 -- two datacentres
 pub record AreTwo (dcs d e : ℕ) : Type 0 where
@@ -47,7 +48,7 @@ IsStep load (Lose d e k) = AreTwo load.dcs d e
 IsStep load (Copy d e k) = AreTwo load.dcs d e
 IsStep load (Announce d h t) = AreTwo load.dcs d h
 IsStep load (AddMaintainer d p) = (d < load.dcs) × (p < NUMBERS_END)
-IsStep load step = place_of_step load step < load.dcs
+IsStep load step = datacentre_of_step load step < load.dcs
 
 -- the number of a member of a stage, which need not be there
 abbrev pub IsMember : ℕ → Type 0
@@ -85,6 +86,7 @@ HasRanges (AddBatcher d) = ⊤
 HasRanges (AddQueue d) = ⊤
 HasRanges (AddSender d) = ⊤
 HasRanges (AddReceiver d) = ⊤
+HasRanges (Upgrade d) = ⊤
 
 -- a step that a script may have
 abbrev pub FitsStep : Workload → Step → Type 0

@@ -13,7 +13,7 @@
 //! and options before the mode need no rule of their own: each of them asks for nothing or for the same task. A seed
 //! is the decimal text of a number of 64 bits, with no sign and no needless zero, so that a task has one text.
 //!
-//! **Tests.** None here: the laws compute on the words themselves. The program's crate runs whole command lines.
+//! **Tests.** None here: the laws compute on the words themselves. `test_program` runs whole command lines.
 #![tactic(auto)]
 
 mod arguments;

@@ -31,7 +31,10 @@ pub const KEYS: usize = 16;
 pub const NAME_BYTES: usize = 64;
 
 /// The most bytes of a body.
-pub const BODY_BYTES: usize = 1024;
+pub const BODY_BYTES: usize = 4096;
+
+/// The most bytes of a body in a message of the dense form, which can tell of no longer ones.
+pub const DENSE_BODY_BYTES: usize = 1024;
 
 /// The most positions in a row that one maintainer owns.
 pub const ROUND: u32 = 1024;

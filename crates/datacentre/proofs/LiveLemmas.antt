@@ -21,7 +21,7 @@ use Rattle.datacentre.specs.declared.parts.Parts.{Parts}
 use Rattle.stage_turns.specs.declared.done.TurnDone.{TurnDone}
 use Rattle.stage_turns.specs.Lent.{token_seen}
 use Rattle.datacentre.specs.Seen.{DatacentreState, IsWhole, StandsForALog, seen, state_of}
-use Rattle.stage_turns.specs.Told.{told_by}
+use Rattle.stage_turns.specs.Told.{told_message}
 use Rattle.datacentre.specs.Turning.{IsPacketOf, IsTurned, MayTurn, Sends, TakesTurn}
 use Rattle.datacentre.proofs.WholeLinks.{told_all}
 
@@ -140,9 +140,9 @@ module _ (failed : Bool) (p : Parts) (s : DatacentreState) (view : state_of fail
         (sends result p new s.dc b k e here fails (subst (λ d. IfOk result (λ sent. IsTurned p new sent.0 (turn_of d (seen p) (Send d k e)))) here h)
         (subst (λ d. IfOk result (λ sent. IsPacketOf d (seen p) k e sent.1)) here packet))
 
-  pub more_is : (k to n : ℕ) (r : Bool) (x : Datacentre) → n ≡ length p.senders → s.stages ≡ Some x → IsTrue r ↔ ((told_by p.dc to k n p.maintainers p.table.table).records ≢ [])
+  pub more_is : (k to n : ℕ) (r : Bool) (x : Datacentre) → n ≡ length p.senders → s.stages ≡ Some x → IsTrue r ↔ ((told_message p.dc to k n p.maintainers p.table.table).records ≢ [])
       → IsTrue r ↔ ((message_of s.dc x k to).records ≢ [])
   more_is k to n r x many is told =
-      let same : told_by p.dc to k n p.maintainers p.table.table ≡ message_of s.dc x k to =
+      let same : told_message p.dc to k n p.maintainers p.table.table ≡ message_of s.dc x k to =
       told_all p k to n many ∙ ap₂ (λ d z. message_of d z k to) here (some_is x is) in
       subst (λ (m : Message). IsTrue r ↔ (m.records ≢ [])) same told

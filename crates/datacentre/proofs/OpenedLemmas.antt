@@ -1,5 +1,5 @@
 -- The parts of a datacentre at the beginning are seen as the stage world's opening.
-use Rattle.std.proofs.Common.{◌≡◌, ℕ, List, [], length, map, replicate, refl, ap, ap₂, sym, ◌∙◌, subst, Option, None}
+use Rattle.std.proofs.Common.{◌≡◌, ℕ, false, List, [], length, map, replicate, refl, ap, ap₂, sym, ◌∙◌, subst, Option, None}
 use Rattle.std.specs.List.{All}
 use Rattle.std.proofs.lemmas.List.{length-replicate}
 use Rattle.causal_deps.specs.Counts.{zero_table}
@@ -22,7 +22,7 @@ use Rattle.stage_world.specs.Opening.{first_epochs, numbered, opening_at, sessio
 use Rattle.stage_world.proofs.OpeningLemmas.{All-numbered, length-numbered}
 use Rattle.datacentre.specs.declared.parts.Parts.{Parts}
 use Rattle.stage_turns.specs.Lent.{HaveToken, queues_seen}
-use Rattle.datacentre.specs.Seen.{IsWhole, first_token, pin_in, seen}
+use Rattle.datacentre.specs.Seen.{IsSenderOf, IsWhole, first_token, pin_in, seen}
 use Rattle.datacentre.proofs.NewLemmas.{map-numbered, none_pinned, nothing_held}
 use Rattle.stage_turns.proofs.RingLemmas.{token_is}
 
@@ -40,8 +40,9 @@ pub record AreNew (sizes : Sizes) (load : Workload) (d : ℕ) (e : EpochList) (s
   pub maintainers : p.maintainers ≡ numbered (λ i. empty i e) sizes.maintainers
   pub vectors : p.vectors ≡ replicate sizes.maintainers (blank e)
   pub indexers : p.indexers ≡ numbered (λ i. nothing_posted i sizes.indexers e) sizes.indexers
-  pub senders : p.senders ≡ numbered (λ k. record { dc = d; number = k }) sizes.senders
+  pub senders : p.senders ≡ numbered (λ k. record { dc = d; number = k; upgraded = false }) sizes.senders
   pub receivers : p.receivers ≡ sizes.receivers
+  pub form : p.upgraded ≡ false
   pub table : p.table ≡ record { dc = d; table = zero_table load.dcs }
   pub learnt : p.learnt ≡ 0
   pub floor : p.floor ≡ fresh
@@ -67,6 +68,7 @@ opening_with sizes load d e shares = record {
   collected = [];
   senders = sizes.senders;
   receivers = sizes.receivers;
+  upgraded = false;
 }
 
 module _ (round : ℕ) (sizes : Sizes) (load : Workload) (d : ℕ) (e : EpochList) (shares : List (List Share)) (p : Parts) (h : AreNew sizes load d e shares p) where
@@ -77,7 +79,7 @@ module _ (round : ℕ) (sizes : Sizes) (load : Workload) (d : ℕ) (e : EpochLis
   maintainers_first = ap (map (λ (m : MaintainerState Record). plain m)) h.maintainers ∙ map-numbered (λ (m : MaintainerState Record). plain m) (λ i. empty i e) sizes.maintainers (λ i. refl)
 
   senders_first : length p.senders ≡ sizes.senders
-  senders_first = ap (λ (xs : List SenderState). length xs) h.senders ∙ length-numbered (λ (k : ℕ). record { dc = d; number = k }) sizes.senders
+  senders_first = ap (λ (xs : List SenderState). length xs) h.senders ∙ length-numbered (λ (k : ℕ). record { dc = d; number = k; upgraded = false }) sizes.senders
 
   seen_with : seen p ≡ opening_with sizes load d e shares
   seen_with = λ i. record {
@@ -98,6 +100,7 @@ module _ (round : ℕ) (sizes : Sizes) (load : Workload) (d : ℕ) (e : EpochLis
     collected = h.collected i;
     senders = senders_first i;
     receivers = h.receivers i;
+    upgraded = h.form i;
   }
 
   pub new_seen : e ≡ first_epochs round sizes.maintainers → shares ≡ first_map load.dcs sizes.filters → seen p ≡ opening_at round sizes load d
@@ -107,7 +110,7 @@ module _ (round : ℕ) (sizes : Sizes) (load : Workload) (d : ℕ) (e : EpochLis
   new_whole = record {
     token = subst (HaveToken p.queues) (sym token_first) h.token;
     table = ap (λ (t : Awareness). t.dc) h.table ∙ sym h.here;
-    senders = subst (All (λ (s : SenderState). s.dc ≡ p.dc)) (sym h.senders) (All-numbered (λ (s : SenderState). s.dc ≡ p.dc) (λ k. record { dc = d; number = k }) sizes.senders (λ k. sym h.here));
+    senders = subst (All (IsSenderOf p.dc p.upgraded)) (sym h.senders) (All-numbered (IsSenderOf p.dc p.upgraded) (λ k. record { dc = d; number = k; upgraded = false }) sizes.senders (λ k. record { dc = sym h.here; form = sym h.form }));
     pins = λ n. ap (λ (g : Floored). pin_of g n) h.floor ∙ nothing_held n ∙ sym (ap (λ xs. pin_in xs n) h.sessions ∙ none_pinned load.dcs d 0 n load.sessions);
     many = ap (λ (g : Floored). length g.pins) h.floor ∙ length-replicate {A = Option ℕ} 64 None;
   }

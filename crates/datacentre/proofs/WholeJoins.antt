@@ -1,11 +1,11 @@
--- Members that join a whole datacentre: what stands then is what the stage world's turn leaves.
-use Rattle.std.proofs.Common.{Result, Ok, Err, IfOk, OnOk, ◌≡◌, ℕ, ◌+◌, ◌<◌, Bool, true, false, cond, ltb, List, [], ◌∷◌, ◌++◌, length, refl, ap, ap₂, sym, ◌∙◌, subst, arith}
+-- Members that join a whole datacentre, and its upgrade: what stands then is what the stage world's turn leaves.
+use Rattle.std.proofs.Common.{Result, Ok, Err, IfOk, OnOk, ◌≡◌, ℕ, ◌+◌, ◌<◌, Bool, true, false, not, cond, ltb, List, map, [], ◌∷◌, ◌++◌, length, refl, ap, ap₂, sym, ◌∙◌, subst, arith}
 use Rattle.std.proofs.lemmas.Bool.{lt-ltb}
 use Rattle.std.proofs.lemmas.List.{length-map, length_push, map_push}
-use Rattle.std.proofs.lemmas.List.Elements.{All-push}
+use Rattle.std.proofs.lemmas.List.Elements.{All-map, All-push, All-weaker}
 use Rattle.std.specs.List.{All}
 use Rattle.causal_deps.specs.declared.record.Record.{Record}
-use Rattle.abstract_log.specs.declared.script.Outcome.TheVariants.{EpochAdded, LateMark, Member}
+use Rattle.abstract_log.specs.declared.script.Outcome.TheVariants.{EpochAdded, LateMark, Member, Form2}
 use Rattle.flstore_rounds.specs.Epochs.{with_epoch}
 use Rattle.flstore_rounds.specs.Heads.{Pair, blank}
 use Rattle.maintainer.specs.Maintainers.{MaintainerState, empty, plain}
@@ -13,14 +13,14 @@ use Rattle.sender_receiver.specs.Sending.{SenderState}
 use Rattle.token_queue.specs.Queues.{QueueState, TokenState, mark_bound, tokenless, with_maintainer, with_queue}
 use Rattle.stage_world.specs.Stages.{Datacentre}
 use Rattle.stage_world.specs.Turns.{quiet, where_there}
-use Rattle.stage_world.specs.MoreTurns.{add_maintainer_turn, maintainer_added, new_queue, next_epoch, queue_added, sender_added}
-use Rattle.stage_world.specs.Idle.{apart_from_epochs, maintainer_apart, queue_apart}
+use Rattle.stage_world.specs.MoreTurns.{add_maintainer_turn, maintainer_added, new_queue, next_epoch, queue_added, sender_added, upgrade_turn}
+use Rattle.stage_world.specs.Idle.{TellsApart, apart_from_epochs, maintainer_apart, queue_apart}
 use Rattle.stage_turns.specs.declared.done.TurnDone.{TurnDone}
 use Rattle.stage_turns.specs.Joining.{MayAddMaintainer, MayAddQueue, maintainer_outcome, maintainers_with, token_adopted, vectors_with}
 use Rattle.stage_turns.specs.Lent.{HaveToken, maintainers_seen, queues_seen, token_seen}
 use Rattle.stage_turns.proofs.ChangeLemmas.{same_tells, tells_other}
 use Rattle.datacentre.specs.declared.parts.Parts.{Parts}
-use Rattle.datacentre.specs.Seen.{seen}
+use Rattle.datacentre.specs.Seen.{IsSenderOf, seen, upgraded}
 use Rattle.datacentre.specs.Turning.{IsTurned, MayTurn}
 use Rattle.datacentre.proofs.WholeTurns.{as_many, there, told_of}
 
@@ -41,7 +41,7 @@ joined n = record { outcome = Member n; events = []; changed = true }
 
 -- senders
 
-pub sender_joins : (p : Parts) (xs : List SenderState) (s : SenderState) (n : ℕ) (done : TurnDone) → MayTurn p → n ≡ length p.senders → n < 16 → s ≡ record { dc = p.dc; number = n } → xs ≡ p.senders ++ s ∷ [] → done ≡ joined n
+pub sender_joins : (p : Parts) (xs : List SenderState) (s : SenderState) (n : ℕ) (done : TurnDone) → MayTurn p → n ≡ length p.senders → n < 16 → s ≡ record { dc = p.dc; number = n; upgraded = p.upgraded } → xs ≡ p.senders ++ s ∷ [] → done ≡ joined n
     → IsTurned p (record p { senders = xs }) done (where_there (ltb (length p.senders) 16) (seen p) (quiet (Member (length p.senders)) (sender_added (seen p))))
 sender_joins p xs s n done may many room made is same =
     let z : Datacentre = seen p in
@@ -52,7 +52,7 @@ sender_joins p xs s n done may many room made is same =
       whole = record {
         token = may.whole.token;
         table = may.whole.table;
-        senders = subst (All (λ (x : SenderState). x.dc ≡ p.dc)) (sym is) (All-push (λ (x : SenderState). x.dc ≡ p.dc) p.senders s may.whole.senders (ap (λ (x : SenderState). x.dc) made));
+        senders = subst (All (IsSenderOf p.dc p.upgraded)) (sym is) (All-push (IsSenderOf p.dc p.upgraded) p.senders s may.whole.senders (record { dc = ap (λ (x : SenderState). x.dc) made; form = ap (λ (x : SenderState). x.upgraded) made }));
         pins = may.whole.pins;
         many = may.whole.many;
       };
@@ -61,6 +61,33 @@ sender_joins p xs s n done may many room made is same =
       changed = told_of z (sender_added z) done.changed true (ap (λ (t : TurnDone). t.changed) same)
           (tells_other (apart_from_epochs z) (apart_from_epochs (sender_added z)) (λ alike. absurd (omega (arith, ap (λ (y : Datacentre). y.senders) alike))));
     })
+
+-- an upgrade
+
+-- the flag is another one exactly where it was not set
+flag_tells : (z : Datacentre) (b : Bool) → z.upgraded ≡ b → TellsApart (not b) (apart_from_epochs z) (apart_from_epochs (upgrade_turn z).after)
+flag_tells z true is = record { same = λ _. ap (λ b. apart_from_epochs (record z { upgraded = b })) is; other = λ yes. absurd (cc) }
+flag_tells z false is = record { same = λ no. absurd (cc); other = λ _ alike. absurd (let set : false ≡ true = sym is ∙ ap (λ (y : Datacentre). y.upgraded) alike in cc) }
+
+pub upgrade_is : (p : Parts) (xs : List SenderState) (done : TurnDone) → MayTurn p → xs ≡ map upgraded p.senders → done.outcome ≡ Form2 → done.events ≡ [] → done.changed ≡ not p.upgraded
+    → IsTurned p (record p { senders = xs; upgraded = true }) done (upgrade_turn (seen p))
+upgrade_is p xs done may is outcome events changed =
+    let z : Datacentre = seen p in
+    record {
+      stages = ap (λ (k : ℕ). record z { senders = k; upgraded = true }) (ap (λ (ys : List SenderState). length ys) is ∙ length-map p.senders upgraded);
+      here = refl;
+      whole = record {
+        token = may.whole.token;
+        table = may.whole.table;
+        senders = subst (All (IsSenderOf p.dc true)) (sym is)
+            (All-map (IsSenderOf p.dc true) upgraded p.senders (All-weaker (IsSenderOf p.dc p.upgraded) (λ s. IsSenderOf p.dc true (upgraded s)) (λ s has. record { dc = has.dc; form = refl }) p.senders may.whole.senders));
+        pins = may.whole.pins;
+        many = may.whole.many;
+      };
+      outcome = outcome;
+      events = events;
+      changed = told_of z (upgrade_turn z).after done.changed (not p.upgraded) changed (flag_tells z p.upgraded refl);
+    }
 
 -- queues
 

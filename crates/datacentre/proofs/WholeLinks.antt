@@ -23,11 +23,11 @@ use Rattle.tag_indexer.specs.Indexers.{IndexerState}
 use Rattle.log_gc.specs.Floors.{Floored, pin_of}
 use Rattle.hyksos.specs.Sessions.{HasFound, writes}
 use Rattle.hyksos.specs.Shelves.{ShelfState}
-use Rattle.hyksos.specs.Turns.{Taken, turn_of, turned}
+use Rattle.hyksos.specs.Turns.{AfterTurn, session_turn, turned}
 use Rattle.stage_turns.specs.Shelves.{ShowsLog}
 use Rattle.record_codec.specs.declared.message.Message.{Message}
-use Rattle.record_codec.specs.Wire.{SpellsMessage}
-use Rattle.sender_receiver.specs.Sending.{SenderState}
+use Rattle.record_codec.specs.Wire.{SpellsIn}
+use Rattle.sender_receiver.specs.Sending.{SenderState, form_of}
 use Rattle.stage_world.specs.Stages.{Datacentre, Session, batcher_at, vector_at}
 use Rattle.stage_world.specs.Turns.{begun, quiet, where_there}
 use Rattle.stage_world.specs.StandsFor.{IsAsFar}
@@ -39,8 +39,8 @@ use Rattle.stage_turns.specs.declared.done.TurnDone.{TurnDone}
 use Rattle.stage_turns.specs.Changing.{TellsNews}
 use Rattle.stage_turns.specs.Clients.{IsSessionTurn, MayRead, MayWrite, batchers_written, session_changes, shelf_for, write_events, write_outcome}
 use Rattle.stage_turns.specs.Lent.{maintainers_seen}
-use Rattle.datacentre.specs.Seen.{StandsForALog, pin_in, seen}
-use Rattle.stage_turns.specs.Told.{MayLook, MayTell, told_by}
+use Rattle.datacentre.specs.Seen.{IsSenderOf, StandsForALog, pin_in, seen}
+use Rattle.stage_turns.specs.Told.{MayLook, MayTell, told_message}
 use Rattle.datacentre.specs.Turning.{IsPacketOf, IsTurned, MayTurn, send_told}
 use Rattle.datacentre.proofs.PinLemmas.{pin_there, pinned_by, pins_held, pins_other, pins_set}
 use Rattle.datacentre.proofs.WholeTurns.{told_of}
@@ -163,8 +163,8 @@ module _ (p : Parts) (s i : ℕ) (x : Session) (may : MayTurn p) (found : Some i
   abbrev shelf : ShelfState
   shelf = shelf_for x.number p.first_maintainers p.maintainers p.vectors p.indexers p.floor
 
-  abbrev taken : Taken
-  taken = turn_of log shelf x
+  abbrev taken : AfterTurn
+  taken = session_turn log shelf x
 
   held : writes x ≡ false → IsHeld p.floor.floor x.number p.floor.pins taken
   held other = session_held log shelf x pin_here other (reads_unpinned w p.dc z x far)
@@ -238,12 +238,15 @@ look_may p k to n log there many =
     subst (λ s. MayLook p.dc to s p.maintainers p.table.table) (sym many)
     (may_look log.world p.dc to k (seen p) p.maintainers log.stands (omega (arith, there, log.stands.knowledge.aware.square.rows)) (all_lent p k))
 
-pub told_all : (p : Parts) (k to n : ℕ) → n ≡ length p.senders → told_by p.dc to k n p.maintainers p.table.table ≡ message_of p.dc (seen p) k to
-told_all p k to n many = ap (λ s. told_by p.dc to k s p.maintainers p.table.table) many ∙ told_is p.dc to k (seen p) p.maintainers (all_lent p k)
+pub told_all : (p : Parts) (k to n : ℕ) → n ≡ length p.senders → told_message p.dc to k n p.maintainers p.table.table ≡ message_of p.dc (seen p) k to
+told_all p k to n many = ap (λ s. told_message p.dc to k s p.maintainers p.table.table) many ∙ told_is p.dc to k (seen p) p.maintainers (all_lent p k)
 
 module _ (p : Parts) (k to n : ℕ) (x : SenderState) (may : MayTurn p) (within : k < length p.senders) (many : n ≡ length p.senders) (is : x ≡ get_or p.senders k x) where
   own : x.dc ≡ p.dc
-  own = subst (λ (y : SenderState). y.dc ≡ p.dc) (sym is) (may.whole.senders k x within)
+  own = (subst (IsSenderOf p.dc p.upgraded) (sym is) (may.whole.senders k x within)).dc
+
+  same_form : x.upgraded ≡ p.upgraded
+  same_form = (subst (IsSenderOf p.dc p.upgraded) (sym is) (may.whole.senders k x within)).form
 
   pub send_may : to < length p.table.table → MayTell x.dc to k n p.maintainers p.table.table
   send_may there =
@@ -251,24 +254,29 @@ module _ (p : Parts) (k to n : ℕ) (x : SenderState) (may : MayTurn p) (within 
       (subst (λ s. MayTell p.dc to k s p.maintainers p.table.table) (sym many)
       (may_tell may.log.world p.dc to k (seen p) p.maintainers may.log.lawful may.log.stands (omega (arith, there, may.log.stands.knowledge.aware.square.rows)) (all_lent p k)))
 
-  told_here : told_by x.dc to k n p.maintainers p.table.table ≡ message_of p.dc (seen p) k to
-  told_here = ap (λ d. told_by d to k n p.maintainers p.table.table) own ∙ told_all p k to n many
+  told_here : told_message x.dc to k n p.maintainers p.table.table ≡ message_of p.dc (seen p) k to
+  told_here = ap (λ d. told_message d to k n p.maintainers p.table.table) own ∙ told_all p k to n many
 
-  pub send_is : (x' : SenderState) (done : TurnDone) → x' ≡ x → done.outcome ≡ Sent (names_of (told_by x.dc to k n p.maintainers p.table.table).records) 0 false → done.events ≡ [] → done.changed ≡ false
+  pub send_is : (x' : SenderState) (done : TurnDone) → x' ≡ x → done.outcome ≡ Sent (names_of (told_message x.dc to k n p.maintainers p.table.table).records) 0 false → done.events ≡ [] → done.changed ≡ false
       → IsTurned p (record p { senders = set p.senders k x' }) done (where_there (ltb k (length p.senders)) (seen p) (send_told p.dc (seen p) k to))
   send_is x' done same outcome events changed =
       let left : set p.senders k x' ≡ p.senders = ap (set p.senders k) (same ∙ is) ∙ set-get_or p.senders k x in
       subst (λ b. IsTurned p (record p { senders = set p.senders k x' }) done (where_there b (seen p) (send_told p.dc (seen p) k to))) (sym (lt-ltb k (length p.senders) within)) (record {
         stages = ap (λ (xs : List SenderState). record (seen p) { senders = length xs }) left;
         here = refl;
-        whole = record { token = may.whole.token; table = may.whole.table; senders = subst (All (λ (s : SenderState). s.dc ≡ p.dc)) (sym left) may.whole.senders; pins = may.whole.pins; many = may.whole.many };
+        whole = record { token = may.whole.token; table = may.whole.table; senders = subst (All (IsSenderOf p.dc p.upgraded)) (sym left) may.whole.senders; pins = may.whole.pins; many = may.whole.many };
         outcome = outcome ∙ ap (λ (m : Message). Sent (names_of m.records) 0 false) told_here;
         events = events;
         changed = told_of (seen p) (seen p) done.changed false changed (same_tells (apart_from_epochs (seen p)));
       })
 
-  pub packet_is : (packet : List ℕ) → SpellsMessage (length p.table.table) packet (told_by x.dc to k n p.maintainers p.table.table) → IsPacketOf p.dc (seen p) k to (Some packet)
-  packet_is packet spelled = (within, subst (SpellsMessage (length p.table.table) packet) told_here spelled)
+  pub packet_is : (packet : List ℕ) → SpellsIn (form_of x.upgraded (told_message x.dc to k n p.maintainers p.table.table)) (length p.table.table) packet (told_message x.dc to k n p.maintainers p.table.table)
+      → IsPacketOf p.dc (seen p) k to (Some packet)
+  packet_is packet spelled = (
+    within,
+    subst (λ (m : Message). SpellsIn (form_of p.upgraded m) (length p.table.table) packet m) told_here
+        (subst (λ b. SpellsIn (form_of b (told_message x.dc to k n p.maintainers p.table.table)) (length p.table.table) packet (told_message x.dc to k n p.maintainers p.table.table)) same_form spelled),
+  )
 
 -- a packet is received
 

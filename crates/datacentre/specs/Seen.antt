@@ -1,10 +1,11 @@
 -- What contracts see of a datacentre.
-use Rattle.std.specs.Prelude.{◌≡◌, ℕ, ◌==◌, Bool, if◌then◌else◌, List, [], length, find, replicate, Option, Some, None, All}
+use Rattle.std.specs.Prelude.{◌≡◌, ℕ, ◌==◌, Bool, true, if◌then◌else◌, List, [], length, find, replicate, Option, Some, None, All}
 use Rattle.cz_base.specs.declared.limits.TheConstants.{SESSIONS}
 use Rattle.std.specs.Option.{option_and_then}
 use Rattle.abstract_log.specs.declared.world.World.{World}
 use Rattle.flstore_rounds.specs.Epochs.{EpochList}
 use Rattle.log_gc.specs.Floors.{pin_of}
+use Rattle.sender_receiver.specs.Sending.{SenderState}
 use Rattle.token_queue.specs.Queues.{TokenState}
 use Rattle.log_laws.specs.Lawful.{IsLawful}
 use Rattle.stage_world.specs.Stages.{Datacentre, Session}
@@ -37,6 +38,7 @@ seen p = record {
   collected = p.collected;
   senders = length p.senders;
   receivers = p.receivers;
+  upgraded = p.upgraded;
 }
 
 abbrev pub state_of : Bool → Parts → DatacentreState
@@ -46,12 +48,21 @@ state_of failed p = record { dc = p.dc; stages = if failed then None else Some (
 abbrev pub pin_in : List Session → ℕ → Option ℕ
 pin_in xs n = option_and_then (λ x. x.pin) (find (λ x. x.number == n) xs)
 
+-- a sender once it is upgraded
+abbrev pub upgraded : SenderState → SenderState
+upgraded s = record s { upgraded = true }
+
+-- a sender of datacentre d, which writes form 2 exactly where d is upgraded
+pub record IsSenderOf (d : ℕ) (upgraded : Bool) (s : SenderState) : Type 0 where
+  pub dc : s.dc ≡ d
+  pub form : s.upgraded ≡ upgraded
+
 -- One queue has the token; table and senders are the datacentre's own; what sessions have pinned, and no more, is held against
 -- collection, where there is room for 64 of them.
 pub record IsWhole (p : Parts) : Type 0 where
   pub token : HaveToken p.queues (token_seen p.queues)
   pub table : p.table.dc ≡ p.dc
-  pub senders : All (λ s. s.dc ≡ p.dc) p.senders
+  pub senders : All (IsSenderOf p.dc p.upgraded) p.senders
   pub pins : (n : ℕ) → pin_of p.floor n ≡ pin_in p.sessions n
   pub many : length p.floor.pins ≡ SESSIONS
 

@@ -2,10 +2,11 @@
 use Rattle.std.specs.Prelude.{◌≡◌, ◌⊎◌, ⊤, ℕ, ◌<◌, ◌≤◌, false, List, length, Option, Some, None, Result, MatchOption, MatchResult}
 use Rattle.cz_base.specs.declared.limits.TheConstants.{MEMBERS, NUMBERS_END}
 use Rattle.abstract_log.specs.declared.script.Step.{Step}
-use Rattle.abstract_log.specs.declared.script.Step.TheVariants.{Client, Flush, Pass, Stamp, Token, Place, Gossip, Post, Learn, Send, Deliver, Lose, Copy, Floor, Collect, Announce, Mark, AddMaintainer, AddBatcher, AddQueue, AddSender, AddReceiver}
+use Rattle.abstract_log.specs.declared.script.Step.TheVariants.{Client, Flush, Pass, Stamp, Token, Place, Gossip, Post, Learn, Send, Deliver, Lose, Copy, Floor, Collect, Announce, Mark, AddMaintainer, AddBatcher, AddQueue, AddSender, AddReceiver, Upgrade}
 use Rattle.stage_world.specs.Stages.{Datacentre}
 use Rattle.abstract_log.specs.declared.script.Outcome.TheVariants.{Sent}
-use Rattle.record_codec.specs.Wire.{SpellsMessage}
+use Rattle.record_codec.specs.Wire.{SpellsIn}
+use Rattle.sender_receiver.specs.Sending.{form_of}
 use Rattle.stage_world.specs.Turns.{Turned, quiet}
 use Rattle.stage_world.specs.MoreTurns.{message_of, names_of}
 use Rattle.stage_world.specs.Schedules.{turn_of}
@@ -39,7 +40,7 @@ pub record TookTurn (d : ℕ) (z : Datacentre) (turned : Turned) (done : TurnDon
 abbrev pub HasFailed : DatacentreState → Type 0
 HasFailed new = new.stages ≡ None
 
--- The turns that take no memory: those of the token and of the floor, an announcement, a receiver that joins, and each that names
+-- The turns that take no memory: those of the token and of the floor, an announcement, a receiver that joins, an upgrade, and each that names
 -- a member which is not there or adds one where there is no room.
 abbrev pub TakesNoMemory : Datacentre → Step → Type 0
 TakesNoMemory z (Client s) = ⊥
@@ -64,6 +65,7 @@ TakesNoMemory z (AddBatcher d) = MEMBERS ≤ length z.batchers
 TakesNoMemory z (AddQueue d) = MEMBERS ≤ length z.queues
 TakesNoMemory z (AddSender d) = MEMBERS ≤ z.senders
 TakesNoMemory z (AddReceiver d) = ⊤
+TakesNoMemory z (Upgrade d) = ⊤
 
 -- It took the turn, or memory was wanted and it has failed.
 abbrev pub TakesTurn : {E : Type 0} → ℕ → Datacentre → Turned → Result TurnDone E → DatacentreState → Type 0
@@ -73,9 +75,9 @@ TakesTurn d z turned result new = MatchResult result (λ done. TookTurn d z turn
 abbrev pub send_told : ℕ → Datacentre → ℕ → ℕ → Turned
 send_told d z k e = quiet (Sent (names_of (message_of d z k e).records) 0 false) z
 
--- The packet is sender k's message to e, and there is one exactly where the sender is there.
+-- The packet is sender k's message to e, in the form that the flag of the datacentre asks for, and there is one exactly where the sender is there.
 abbrev pub IsPacketOf : ℕ → Datacentre → ℕ → ℕ → Option (List ℕ) → Type 0
-IsPacketOf d z k e packet = MatchOption packet (z.senders ≤ k) (λ bytes. (k < z.senders) × SpellsMessage (length z.table) bytes (message_of d z k e))
+IsPacketOf d z k e packet = MatchOption packet (z.senders ≤ k) (λ bytes. (k < z.senders) × SpellsIn (form_of z.upgraded (message_of d z k e)) (length z.table) bytes (message_of d z k e))
 
 -- It took the turn of sender k and made its packet for e, or it has failed.
 abbrev pub Sends : {E : Type 0} → ℕ → Datacentre → ℕ → ℕ → Result (TurnDone × Option (List ℕ)) E → DatacentreState → Type 0
@@ -107,3 +109,4 @@ IsOwnStep z (AddBatcher d) = ⊤
 IsOwnStep z (AddQueue d) = ⊤
 IsOwnStep z (AddSender d) = ⊤
 IsOwnStep z (AddReceiver d) = ⊤
+IsOwnStep z (Upgrade d) = ⊤

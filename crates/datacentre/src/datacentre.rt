@@ -268,6 +268,7 @@ fn new_parts(
         indexers: new_indexers(alloc, sizes.indexers, &epochs)?,
         senders: new_senders(alloc, dc, sizes.senders)?,
         receivers: sizes.receivers,
+        upgraded: false,
         table: Aware::new(dc, dcs),
         learnt: 0,
         floor: Gc::new(),

@@ -12,8 +12,9 @@ use crate::{TurnDone, turns};
 use abstract_log::Outcome;
 use batcher::Batcher;
 use cz_base::limits::MEMBERS;
-use cz_base::{Lid, NoMemory, Seq};
+use cz_base::{DcId, Lid, NoMemory, Seq};
 use sender_receiver::Sender;
+use std::alloc::Global;
 
 impl Parts {
     /// One batcher more, with no items.
@@ -53,7 +54,7 @@ impl Parts {
         if number >= MEMBERS {
             return Ok(self.absent());
         }
-        let sender = Sender::new(self.senders.alloc(), self.dc, number as u32)?;
+        let sender = new_sender(self.senders.alloc(), self.dc, number as u32, self.upgraded)?;
         self.senders.push(sender)?;
         Ok(self.joined(number as u32))
     }
@@ -100,4 +101,15 @@ impl Parts {
             changed: true,
         }
     }
+}
+
+// A sender that writes in the form of its datacentre.
+fn new_sender(alloc: Global, dc: DcId, number: u32, upgraded: bool) -> Result<Sender, NoMemory>
+    ensures { IfOk result (λ sender. sender ≡ record { dc = dc; number = number; upgraded = upgraded }) }
+{
+    let mut sender = Sender::new(alloc, dc, number)?;
+    if upgraded {
+        sender.upgrade();
+    }
+    Ok(sender)
 }

@@ -4,7 +4,7 @@
 //! maintainers, vectors, indexers, table, as plain data. The theorem for the layer above: each turn is its equation there,
 //! with its outcome and its events. So what the stages hold goes on standing for a log.
 //!
-//! Tests: none here; datacentres are run by the tests of `test_world` and of the program.
+//! Tests: none here; datacentres are run by the tests of `test_world` and `test_program`.
 #![tactic(auto)]
 
 mod datacentre;
@@ -14,6 +14,7 @@ mod marking;
 mod opening;
 mod parts;
 mod taking;
+mod upgrading;
 
 pub use datacentre::Datacentre;
 pub use hyksos::Session;

@@ -1,5 +1,5 @@
 //! The members of a datacentre's stages at the beginning, each kind by number.
-ghost use Rattle.std.specs.Prelude.{◌≡◌, ◌<◌, ◌≤◌, ◌^◌, [], length, replicate, slice_set, Some, None, All, IfOk};
+ghost use Rattle.std.specs.Prelude.{◌≡◌, ◌<◌, ◌≤◌, ◌^◌, false, [], length, replicate, slice_set, Some, None, All, IfOk};
 ghost use Rattle.cz_base.specs.declared.limits.TheConstants.{DATACENTRES, MEMBERS};
 ghost use Rattle.flstore_rounds.specs.Heads.{blank};
 ghost use Rattle.hyksos.specs.Sessions.{AreCommands};
@@ -118,7 +118,7 @@ pub(crate) fn new_indexers(alloc: Global, n: u32, epochs: &Epochs) -> Result<Seq
 
 /// So many senders.
 pub(crate) fn new_senders(alloc: Global, dc: DcId, n: u32) -> Result<Seq<Sender>, NoMemory>
-    ensures { IfOk result (λ senders. senders ≡ numbered (λ k. record { dc = dc; number = k }) n) }
+    ensures { IfOk result (λ senders. senders ≡ numbered (λ k. record { dc = dc; number = k; upgraded = false }) n) }
 {
     let mut senders = Seq::new(alloc);
     for number in 0..n {

@@ -32,6 +32,8 @@ pub(crate) struct Parts {
     pub indexers: Seq<Indexer>,
     pub senders: Seq<Sender>,
     pub receivers: u32,
+    /// Whether its senders write wire form 2.
+    pub upgraded: bool,
     pub table: Aware,
     /// The position up to which the own row counts.
     pub learnt: Lid,

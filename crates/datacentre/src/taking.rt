@@ -44,6 +44,7 @@ impl Parts {
             Step::AddQueue { .. } => self.add_queue(),
             Step::AddSender { .. } => self.add_sender(),
             Step::AddReceiver { .. } => self.add_receiver(),
+            Step::Upgrade { .. } => Ok(self.upgrade()),
             Step::Announce { h, t, .. } => Ok(self.announce(*h, *t)),
             Step::Mark { .. } => self.mark(),
             Step::Send { .. } | Step::Deliver { .. } | Step::Lose { .. } | Step::Copy { .. } => {

@@ -70,6 +70,14 @@ impl Epochs {
         Ok(Epochs { round, list })
     }
 
+    /// A list that is one already, without more memory.
+    pub fn from_list(round: u32, list: Vec<Epoch>) -> Self
+        requires { IsEpochList (record { round = round; list = list.items }) }
+        ensures { result ≡ record { round = round; list = list.items } }
+    {
+        Epochs { round, list }
+    }
+
     /// How many positions in a row a member owns, 1 to [`cz_base::limits::ROUND`].
     pub fn round(&self) -> u32
         ensures value { result ≡ self.now.round }

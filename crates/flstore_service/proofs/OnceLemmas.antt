@@ -16,7 +16,7 @@ use Rattle.flstore_service.specs.declared.script.FlStep.TheVariants as step
 use Rattle.flstore_service.specs.declared.service.Member.{Member}
 use Rattle.flstore_service.specs.declared.service.Service.{Service}
 use Rattle.flstore_service.specs.declared.service.Submission.{Submission}
-use Rattle.flstore_service.specs.Running.{Turned, fresh, fresh_upto, grown, heard, kept_at, late_bound, next_epochs, own_vector, owned, put_in, quiet, service_after, shown_by, start, submission, told_epochs, turn, where_some, with_member}
+use Rattle.flstore_service.specs.Running.{StepDone, fresh, fresh_upto, grown, heard, kept_at, late_bound, next_epochs, own_vector, owned, put_in, quiet, service_after, shown_by, start, submission, told_epochs, turn, where_some, with_member}
 use Rattle.flstore_service.specs.Laws.{AreAbove, all_times, has_number, once_upto}
 
 -- what every step keeps holds after all of them
@@ -31,7 +31,7 @@ pub record KeepsAppenders (P : Service → Type 0) : Type 0 where
   pub kept : (s : Service) (m bound : ℕ) (body : List ℕ) (member : Member) → slice_get s.members m ≡ Some member → P s → P (kept_at s m member bound body).service
   pub grown : (s : Service) (p : ℕ) → P s → P (grown s p)
 
-where_kept : {A : Type 0} (P : Service → Type 0) (s : Service) (o : Option A) (go : A → Turned) → P s → ((x : A) → o ≡ Some x → P (go x).service) → P (where_some s o go).service
+where_kept : {A : Type 0} (P : Service → Type 0) (s : Service) (o : Option A) (go : A → StepDone) → P s → ((x : A) → o ≡ Some x → P (go x).service) → P (where_some s o go).service
 where_kept P s None go is each = is
 where_kept P s (Some x) go is each = each x refl
 
@@ -42,13 +42,13 @@ heard_kept P keeps s k note is = where_kept P s (slice_get s.members k) (λ hear
 pub step_kept : (P : Service → Type 0) → KeepsAppenders P → (s : Service) (x : FlStep) → P s → P (turn s x).service
 step_kept P keeps s (step.Put m body) is = where_kept P s (slice_get s.members m) (λ member. put_in s m member 0 body) is (λ member at. keeps.placed s m 0 body member at (next_lid_first member.appender.maintainer) is)
 step_kept P keeps s (step.After m p body) is = where_kept P s (slice_get s.members m) (λ member. if nat_lt p (next_lid member.appender.maintainer) then put_in s m member p body else kept_at s m member p body) is
-    (λ member at. cond_both (ltb p (next_lid member.appender.maintainer)) (put_in s m member p body) (kept_at s m member p body) (λ (done : Turned). P done.service)
+    (λ member at. cond_both (ltb p (next_lid member.appender.maintainer)) (put_in s m member p body) (kept_at s m member p body) (λ (done : StepDone). P done.service)
     (λ low. keeps.placed s m p body member at (ltb-true p (next_lid member.appender.maintainer) low) is) (λ _. keeps.kept s m p body member at is))
 step_kept P keeps s (step.Gossip m k) is = where_kept P s (slice_get s.members m) (λ teller. where_some s (slice_get s.members k) (λ _. heard (owned s m teller) k (own_vector m teller))) is
     (λ teller at. where_kept P s (slice_get s.members k) (λ _. heard (owned s m teller) k (own_vector m teller)) is (λ _ _. heard_kept P keeps (owned s m teller) k (own_vector m teller) (keeps.vector s m teller (own_vector m teller) at is)))
 step_kept P keeps s (step.Head m) is = where_kept P s (slice_get s.members m) (λ member. quiet (owned s m member) (HeadAt (head (own_vector m member)))) is (λ member at. keeps.vector s m member (own_vector m member) at is)
 step_kept P keeps s (step.Read m p) is = where_kept P s (slice_get s.members m) (λ member. quiet s (if nat_lt (head member.vector) p then Beyond else shown_by (slice_get s.members (owner s.epochs p)) p)) is (λ member at. is)
-step_kept P keeps s (step.AddMaintainer p) is = cond_both (leb p (late_bound s)) (quiet s (Late (late_bound s))) (quiet (grown s p) (EpochAdded p (length s.members + 1))) (λ (done : Turned). P done.service) (λ _. is) (λ _. keeps.grown s p is)
+step_kept P keeps s (step.AddMaintainer p) is = cond_both (leb p (late_bound s)) (quiet s (Late (late_bound s))) (quiet (grown s p) (EpochAdded p (length s.members + 1))) (λ (done : StepDone). P done.service) (λ _. is) (λ _. keeps.grown s p is)
 
 -- sums over the members
 

@@ -24,8 +24,8 @@ use Rattle.flstore_service.specs.declared.script.FlStep.TheVariants as step
 use Rattle.flstore_service.specs.declared.service.Member.{Member}
 use Rattle.flstore_service.specs.declared.service.Service.{Service}
 use Rattle.flstore_service.specs.Fits.{FitsFlStep, additions, adds_maintainer}
-use Rattle.flstore_service.specs.Running.{Turned, add_maintainer_turn, after_turn, fresh, fresh_upto, gossip_turn, grown, head_turn, heard, kept_at, lines_after, service_after, late_bound, next_epochs, own_vector, owned, put_in, put_turn, quiet, read_turn, shown_by, start, submission, told_epochs, turn, where_some, with_member}
-use Rattle.flstore_service.specs.Sound.{IsMember, IsServing}
+use Rattle.flstore_service.specs.Running.{StepDone, add_maintainer_turn, after_turn, fresh, fresh_upto, gossip_turn, grown, head_turn, heard, kept_at, lines_after, service_after, late_bound, next_epochs, own_vector, owned, put_in, put_turn, quiet, read_turn, shown_by, start, submission, told_epochs, turn, where_some, with_member}
+use Rattle.flstore_service.specs.Sound.{IsSoundMember, IsServing}
 use Rattle.flstore_service.proofs.TurnLemmas.{longer_is, slice_get-set_other, slice_get-set_same}
 use Rattle.flstore_service.proofs.RoomLemmas.{is_placed}
 
@@ -59,7 +59,7 @@ serving_more s n h = record {
 
 -- a member that has the same epochs, with more values and a greater top
 
-member_grows : (s t : Service) (m : ℕ) (member : Member) → t.epochs ≡ s.epochs → s.top ≤ t.top → s.count ≤ t.count → IsMember s m member → IsMember t m member
+member_grows : (s t : Service) (m : ℕ) (member : Member) → t.epochs ≡ s.epochs → s.top ≤ t.top → s.count ≤ t.count → IsSoundMember s m member → IsSoundMember t m member
 member_grows s t m member same top count is = record {
   number = is.number;
   epochs = is.epochs ∙ sym same;
@@ -70,11 +70,11 @@ member_grows s t m member same top count is = record {
 
 -- one member is another, and the others have grown
 
-each_set : (s t : Service) (m : ℕ) (new : Member) → t.members ≡ slice_set s.members m new → m < length s.members → IsMember t m new → ((k : ℕ) (member : Member) → slice_get s.members k ≡ Some member → IsMember t k member) → (k : ℕ) (member : Member) → slice_get t.members k ≡ Some member → IsMember t k member
+each_set : (s t : Service) (m : ℕ) (new : Member) → t.members ≡ slice_set s.members m new → m < length s.members → IsSoundMember t m new → ((k : ℕ) (member : Member) → slice_get s.members k ≡ Some member → IsSoundMember t k member) → (k : ℕ) (member : Member) → slice_get t.members k ≡ Some member → IsSoundMember t k member
 each_set s t m new is inside one others k member at = elim (cases_eq m k) [
   | inl same ↦
       let here : member ≡ new = same_Some member new (sym at ∙ ap (λ xs. slice_get xs k) is ∙ ap (slice_get (slice_set s.members m new)) (sym same) ∙ slice_get-set_same s.members m new inside) in
-      subst (λ i. IsMember t i member) same (subst (IsMember t m) (sym here) one)
+      subst (λ i. IsSoundMember t i member) same (subst (IsSoundMember t m) (sym here) one)
   | inr other ↦ others k member (sym (slice_get-set_other s.members m k new other) ∙ sym (ap (λ xs. slice_get xs k) is) ∙ at)
 ]
 
@@ -104,7 +104,7 @@ pub owned_served : (s : Service) (n m : ℕ) (member : Member) → IsServing s n
 owned_served s n m member h at = vector_served s n m member (own_vector m member) h at (own_begun s n m member h at)
 
 -- what is true of each answer and of none
-where_served : {A : Type 0} (s : Service) (n : ℕ) (o : Option A) (go : A → Turned) → IsServing s n → ((x : A) → o ≡ Some x → IsServing (go x).service n) → IsServing (where_some s o go).service n
+where_served : {A : Type 0} (s : Service) (n : ℕ) (o : Option A) (go : A → StepDone) → IsServing s n → ((x : A) → o ≡ Some x → IsServing (go x).service n) → IsServing (where_some s o go).service n
 where_served s n None go h each = h
 where_served s n (Some x) go h each = each x refl
 
@@ -185,7 +185,7 @@ put_served s n m body h few = where_served s (n + 1) (slice_get s.members m) (λ
 
 after_served : (s : Service) (n m p : ℕ) (body : List ℕ) → IsServing s n → n < STEPS → IsServing (after_turn s m p body).service (n + 1)
 after_served s n m p body h few = where_served s (n + 1) (slice_get s.members m) (λ member. if nat_lt p (next_lid member.appender.maintainer) then put_in s m member p body else kept_at s m member p body) (serving_more s n h)
-    (λ member at. cond_both (ltb p (next_lid member.appender.maintainer)) (put_in s m member p body) (kept_at s m member p body) (λ (done : Turned). IsServing done.service (n + 1)) (λ _. put_in_served s n m p body member h few at) (λ _. kept_served s n m p body member h at))
+    (λ member at. cond_both (ltb p (next_lid member.appender.maintainer)) (put_in s m member p body) (kept_at s m member p body) (λ (done : StepDone). IsServing done.service (n + 1)) (λ _. put_in_served s n m p body member h few at) (λ _. kept_served s n m p body member h at))
 
 -- one maintainer more
 
@@ -208,12 +208,12 @@ grown_served s n p h late small room =
       top = h.top;
     }
   where
-    told_member : (k : ℕ) (member : Member) (o : Option Member) → slice_get s.members k ≡ o → option_map (told_epochs (next_epochs s p)) o ≡ Some member → IsPrefix s.epochs (next_epochs s p) → IsMember (grown s p) k member
+    told_member : (k : ℕ) (member : Member) (o : Option Member) → slice_get s.members k ≡ o → option_map (told_epochs (next_epochs s p)) o ≡ Some member → IsPrefix s.epochs (next_epochs s p) → IsSoundMember (grown s p) k member
     told_member k member None at is begun = absurd (let f : None ≡ Some member = is in cc)
     told_member k member (Some was) at is begun =
         let one = h.each k was at in
         let here : told_epochs (next_epochs s p) was ≡ member = same_Some (told_epochs (next_epochs s p) was) member is in
-        subst (IsMember (grown s p) k) here (record {
+        subst (IsSoundMember (grown s p) k) here (record {
           number = one.number;
           epochs = longer_is was.appender.maintainer.epochs (next_epochs s p) (subst (λ x. IsPrefix x (next_epochs s p)) (sym one.epochs) begun);
           below = one.below;
@@ -221,8 +221,8 @@ grown_served s n p h late small room =
           vector = prefix_more was.vector.epochs s.epochs (record { start = p; members = length s.members + 1 }) one.vector;
         })
 
-    fresh_member : (k : ℕ) (member : Member) → k ≡ length (map (told_epochs (next_epochs s p)) s.members) → member ≡ fresh (next_epochs s p) (length s.members) → IsMember (grown s p) k member
-    fresh_member k member at is = subst (IsMember (grown s p) k) (sym is) (record {
+    fresh_member : (k : ℕ) (member : Member) → k ≡ length (map (told_epochs (next_epochs s p)) s.members) → member ≡ fresh (next_epochs s p) (length s.members) → IsSoundMember (grown s p) k member
+    fresh_member k member at is = subst (IsSoundMember (grown s p) k) (sym is) (record {
       number = sym (at ∙ length-map s.members (told_epochs (next_epochs s p)));
       epochs = refl;
       below = λ q full. absurd (omega (arith, full));
@@ -231,7 +231,7 @@ grown_served s n p h late small room =
     })
 
 add_served : (s : Service) (n p : ℕ) → IsServing s n → p < 2 ^ 32 → length s.members < MEMBERS → IsServing (add_maintainer_turn s p).service n
-add_served s n p h small room = cond_both (leb p (late_bound s)) (quiet s (Late (late_bound s))) (quiet (grown s p) (EpochAdded p (length s.members + 1))) (λ (done : Turned). IsServing done.service n) (λ _. h) (λ above. grown_served s n p h (leb-false p (late_bound s) above) small room)
+add_served s n p h small room = cond_both (leb p (late_bound s)) (quiet s (Late (late_bound s))) (quiet (grown s p) (EpochAdded p (length s.members + 1))) (λ (done : StepDone). IsServing done.service n) (λ _. h) (λ above. grown_served s n p h (leb-false p (late_bound s) above) small room)
 
 pub turn_served : (s : Service) (n : ℕ) (x : FlStep) → IsServing s n → n < STEPS → FitsFlStep x → length s.members + cond (adds_maintainer x) 1 0 ≤ MEMBERS → IsServing (turn s x).service (n + 1)
 turn_served s n (step.Put m body) h few fits room = put_served s n m body h few
@@ -243,7 +243,7 @@ turn_served s n (step.AddMaintainer p) h few fits room = serving_more (add_maint
 
 -- no step adds more than one maintainer, and only one kind adds any
 
-where_few : {A : Type 0} (s : Service) (n : ℕ) (o : Option A) (go : A → Turned) → length s.members ≤ n → ((x : A) → o ≡ Some x → length (go x).service.members ≤ n) → length (where_some s o go).service.members ≤ n
+where_few : {A : Type 0} (s : Service) (n : ℕ) (o : Option A) (go : A → StepDone) → length s.members ≤ n → ((x : A) → o ≡ Some x → length (go x).service.members ≤ n) → length (where_some s o go).service.members ≤ n
 where_few s n None go few each = few
 where_few s n (Some x) go few each = each x refl
 
@@ -253,7 +253,7 @@ set_few s m member = omega (arith, length-set s.members m member)
 pub turn_members : (s : Service) (x : FlStep) → length (turn s x).service.members ≤ length s.members + cond (adds_maintainer x) 1 0
 turn_members s (step.Put m body) = where_few s (length s.members + 0) (slice_get s.members m) (λ member. put_in s m member 0 body) (omega arith) (λ member at. set_few s m (record member { appender = (appended member.appender (submission s 0 body)).state }))
 turn_members s (step.After m p body) = where_few s (length s.members + 0) (slice_get s.members m) (λ member. if nat_lt p (next_lid member.appender.maintainer) then put_in s m member p body else kept_at s m member p body) (omega arith)
-    (λ member at. cond_both (ltb p (next_lid member.appender.maintainer)) (put_in s m member p body) (kept_at s m member p body) (λ (done : Turned). length done.service.members ≤ length s.members + 0)
+    (λ member at. cond_both (ltb p (next_lid member.appender.maintainer)) (put_in s m member p body) (kept_at s m member p body) (λ (done : StepDone). length done.service.members ≤ length s.members + 0)
     (λ _. set_few s m (record member { appender = (appended member.appender (submission s p body)).state }))
     (λ _. set_few s m (record member { appender = kept member.appender p (submission s p body) })))
 turn_members s (step.Gossip m k) = where_few s (length s.members + 0) (slice_get s.members m) (λ teller. where_some s (slice_get s.members k) (λ _. heard (owned s m teller) k (own_vector m teller))) (omega arith)
@@ -265,7 +265,7 @@ turn_members s (step.Gossip m k) = where_few s (length s.members + 0) (slice_get
         (λ hearer at. omega (arith, set_few (owned s m teller) k (record hearer { vector = joined hearer.vector (own_vector m teller) }), set_few s m (record teller { vector = own_vector m teller })))
 turn_members s (step.Head m) = where_few s (length s.members + 0) (slice_get s.members m) (λ member. quiet (owned s m member) (HeadAt (head (own_vector m member)))) (omega arith) (λ member at. set_few s m (record member { vector = own_vector m member }))
 turn_members s (step.Read m p) = where_few s (length s.members + 0) (slice_get s.members m) (λ member. quiet s (if nat_lt (head member.vector) p then Beyond else shown_by (slice_get s.members (owner s.epochs p)) p)) (omega arith) (λ member at. omega arith)
-turn_members s (step.AddMaintainer p) = cond_both (leb p (late_bound s)) (quiet s (Late (late_bound s))) (quiet (grown s p) (EpochAdded p (length s.members + 1))) (λ (done : Turned). length done.service.members ≤ length s.members + 1)
+turn_members s (step.AddMaintainer p) = cond_both (leb p (late_bound s)) (quiet s (Late (late_bound s))) (quiet (grown s p) (EpochAdded p (length s.members + 1))) (λ (done : StepDone). length done.service.members ≤ length s.members + 1)
     (λ _. omega arith) (λ _. omega (arith, length_push (map (told_epochs (next_epochs s p)) s.members) (fresh (next_epochs s p) (length s.members)), length-map s.members (told_epochs (next_epochs s p))))
 
 -- all steps, one after another
@@ -293,8 +293,8 @@ pub running_on : (first now new : Service) (steps : List FlStep) (at : ℕ) (so_
     → quiet new outcome ≡ turn now x → more ≡ so_far ++ record { step = x; outcome = outcome } ∷ [] → IsRunning first steps (at + 1) new more
 running_on first now new steps at so_far more x outcome run inside is short all is_turn is_more =
     let next = running_next first now steps at so_far x run inside is all in
-    let service : new ≡ (turn now x).service = ap (λ (t : Turned). t.service) is_turn in
-    let answer : outcome ≡ (turn now x).outcome = ap (λ (t : Turned). t.outcome) is_turn in
+    let service : new ≡ (turn now x).service = ap (λ (t : StepDone). t.service) is_turn in
+    let answer : outcome ≡ (turn now x).outcome = ap (λ (t : StepDone). t.outcome) is_turn in
     let rest : drop at steps ≡ x ∷ drop (at + 1) steps = drop-cons steps at x inside ∙ ap (λ y. y ∷ drop (suc at) steps) (sym is) ∙ ap (λ k. x ∷ drop k steps) (add_one at) in
     record {
       serving = subst (λ s. IsServing s (at + 1)) (sym service) (turn_served now at x run.serving (omega (arith, inside, short)) next.fits next.room);
@@ -336,7 +336,7 @@ start_served round maintainers some short one few =
       epochs = first_epoch_list round maintainers some short one few;
       start = omega arith;
       members = fresh_length e maintainers;
-      each = λ m member at. subst (IsMember (start round maintainers) m) (sym (fresh_at e maintainers m member at)) (record { number = refl; epochs = refl; below = λ p full. absurd (omega (arith, full)); waits = omega arith; vector = prefix_refl e });
+      each = λ m member at. subst (IsSoundMember (start round maintainers) m) (sym (fresh_at e maintainers m member at)) (record { number = refl; epochs = refl; below = λ p full. absurd (omega (arith, full)); waits = omega arith; vector = prefix_refl e });
       count = omega arith;
       top = omega arith;
     }

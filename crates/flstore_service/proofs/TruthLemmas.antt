@@ -28,8 +28,8 @@ use Rattle.flstore_service.specs.declared.service.Member.{Member}
 use Rattle.flstore_service.specs.declared.service.Service.{Service}
 use Rattle.flstore_service.specs.declared.service.Submission.{Submission}
 use Rattle.flstore_service.specs.Fits.{FitsFlScript, FitsFlStep, additions, adds_maintainer}
-use Rattle.flstore_service.specs.Running.{Turned, add_maintainer_turn, after_turn, fresh, gossip_turn, grown, head_turn, heard, kept_at, late_bound, next_epochs, own_vector, owned, put_in, put_turn, quiet, read_turn, service_after, shown, shown_by, start, submission, told_epochs, turn, where_some, with_member}
-use Rattle.flstore_service.specs.Laws.{IsStanding, reached, told_by}
+use Rattle.flstore_service.specs.Running.{StepDone, add_maintainer_turn, after_turn, fresh, gossip_turn, grown, head_turn, heard, kept_at, late_bound, next_epochs, own_vector, owned, put_in, put_turn, quiet, read_turn, service_after, shown, shown_by, start, submission, told_epochs, turn, where_some, with_member}
+use Rattle.flstore_service.specs.Laws.{IsFilledSomewhere, reached, head_told}
 use Rattle.flstore_service.specs.Sound.{IsServing}
 use Rattle.flstore_service.proofs.TurnLemmas.{slice_get-set_other, slice_get-set_same}
 use Rattle.flstore_service.proofs.ServedLemmas.{fresh_at, fresh_length, start_served, turn_members, turn_served}
@@ -37,7 +37,7 @@ use Rattle.flstore_service.proofs.ServedLemmas.{fresh_at, fresh_length, start_se
 -- a maintainer owns what it has filled, and its vector is true of what stands
 pub record IsTruthfulMember (s : Service) (member : Member) : Type 0 where
   pub owns : OwnsAll s.epochs member.appender.maintainer
-  pub truth : IsTruePair s.epochs (IsStanding s) member.vector
+  pub truth : IsTruePair s.epochs (IsFilledSomewhere s) member.vector
 
 pub record IsTruthful (s : Service) : Type 0 where
   pub each : (m : ℕ) (member : Member) → slice_get s.members m ≡ Some member → IsTruthfulMember s member
@@ -50,7 +50,7 @@ pub record Goes (member new : Member) : Type 0 where
 goes_refl : (member : Member) → Goes member member
 goes_refl member = record { filled = λ p full. full }
 
-standing_set : (s t : Service) (m : ℕ) (member new : Member) → t.members ≡ slice_set s.members m new → slice_get s.members m ≡ Some member → Goes member new → (p : ℕ) → IsStanding s p → IsStanding t p
+standing_set : (s t : Service) (m : ℕ) (member new : Member) → t.members ≡ slice_set s.members m new → slice_get s.members m ≡ Some member → Goes member new → (p : ℕ) → IsFilledSomewhere s p → IsFilledSomewhere t p
 standing_set s t m member new is at goes p stands = elim (cases_eq m stands.number) [
   | inl same ↦
       let here : member ≡ stands.member = same_Some member stands.member (sym at ∙ ap (slice_get s.members) same ∙ stands.there) in
@@ -70,40 +70,40 @@ standing_set s t m member new is at goes p stands = elim (cases_eq m stands.numb
 
 -- one member is another, which owns what it has and has a true vector
 
-set_truthful : (s t : Service) (m : ℕ) (member new : Member) → t.members ≡ slice_set s.members m new → t.epochs ≡ s.epochs → slice_get s.members m ≡ Some member → Goes member new → OwnsAll s.epochs new.appender.maintainer → IsTruePair s.epochs (IsStanding t) new.vector → IsTruthful s → IsTruthful t
+set_truthful : (s t : Service) (m : ℕ) (member new : Member) → t.members ≡ slice_set s.members m new → t.epochs ≡ s.epochs → slice_get s.members m ≡ Some member → Goes member new → OwnsAll s.epochs new.appender.maintainer → IsTruePair s.epochs (IsFilledSomewhere t) new.vector → IsTruthful s → IsTruthful t
 set_truthful s t m member new is same at goes owns truth was = record {
   each = λ k other is_other. elim (cases_eq m k) [
     | inl here ↦
         let one : other ≡ new = same_Some other new (sym is_other ∙ ap (λ xs. slice_get xs k) is ∙ ap (slice_get (slice_set s.members m new)) (sym here) ∙ slice_get-set_same s.members m new (slice_get_within s.members m member at)) in
         subst (IsTruthfulMember t) (sym one) (record {
           owns = subst (λ e. OwnsAll e new.appender.maintainer) (sym same) owns;
-          truth = subst (λ e. IsTruePair e (IsStanding t) new.vector) (sym same) truth;
+          truth = subst (λ e. IsTruePair e (IsFilledSomewhere t) new.vector) (sym same) truth;
         })
     | inr there ↦
         let old = was.each k other (sym (slice_get-set_other s.members m k new there) ∙ sym (ap (λ xs. slice_get xs k) is) ∙ is_other) in
         record {
           owns = subst (λ e. OwnsAll e other.appender.maintainer) (sym same) old.owns;
-          truth = subst (λ e. IsTruePair e (IsStanding t) other.vector) (sym same) (true_more s.epochs (IsStanding s) (IsStanding t) other.vector (standing_set s t m member new is at goes) old.truth);
+          truth = subst (λ e. IsTruePair e (IsFilledSomewhere t) other.vector) (sym same) (true_more s.epochs (IsFilledSomewhere s) (IsFilledSomewhere t) other.vector (standing_set s t m member new is at goes) old.truth);
         }
   ];
 }
 
 -- vectors
 
-pub own_true_here : (s : Service) (n m : ℕ) (member : Member) → IsServing s n → IsTruthful s → slice_get s.members m ≡ Some member → IsTruePair s.epochs (IsStanding s) (own_vector m member)
+pub own_true_here : (s : Service) (n m : ℕ) (member : Member) → IsServing s n → IsTruthful s → slice_get s.members m ≡ Some member → IsTruePair s.epochs (IsFilledSomewhere s) (own_vector m member)
 own_true_here s n m member serving was at =
     let one = serving.each m member at in
     let here = was.each m member at in
-    with_own_true s.epochs member.appender.maintainer.epochs (IsStanding s) member.vector m (mark_of member.appender.maintainer) here.truth
-    (subst (λ k. IsTruePair s.epochs (IsStanding s) (single member.appender.maintainer.epochs k (mark_of member.appender.maintainer))) one.number
-    (own_pair_true s.epochs member.appender.maintainer (IsStanding s) (all_starts_from s.epochs serving.epochs) here.owns (λ p full. record { number = m; member = member; there = at; filled = full })))
+    with_own_true s.epochs member.appender.maintainer.epochs (IsFilledSomewhere s) member.vector m (mark_of member.appender.maintainer) here.truth
+    (subst (λ k. IsTruePair s.epochs (IsFilledSomewhere s) (single member.appender.maintainer.epochs k (mark_of member.appender.maintainer))) one.number
+    (own_pair_true s.epochs member.appender.maintainer (IsFilledSomewhere s) (all_starts_from s.epochs serving.epochs) here.owns (λ p full. record { number = m; member = member; there = at; filled = full })))
 
-vector_truthful : (s : Service) (m : ℕ) (member : Member) (v : Pair) → slice_get s.members m ≡ Some member → IsTruePair s.epochs (IsStanding s) v → IsTruthful s → IsTruthful (with_member s m (record member { vector = v }))
+vector_truthful : (s : Service) (m : ℕ) (member : Member) (v : Pair) → slice_get s.members m ≡ Some member → IsTruePair s.epochs (IsFilledSomewhere s) v → IsTruthful s → IsTruthful (with_member s m (record member { vector = v }))
 vector_truthful s m member v at truth was =
     let new : Member = record member { vector = v } in
     let t : Service = with_member s m new in
     let goes : Goes member new = record { filled = λ p full. full } in
-    set_truthful s t m member new refl refl at goes (was.each m member at).owns (true_more s.epochs (IsStanding s) (IsStanding t) v (standing_set s t m member new refl at goes) truth) was
+    set_truthful s t m member new refl refl at goes (was.each m member at).owns (true_more s.epochs (IsFilledSomewhere s) (IsFilledSomewhere t) v (standing_set s t m member new refl at goes) truth) was
 
 -- a value that goes in
 
@@ -140,18 +140,18 @@ put_in_truthful s n m bound body member serving at was =
     let t : Service = (put_in s m member bound body).service in
     let owning = appended_owning s n m member value serving was at in
     let goes : Goes member new = record { filled = owning.filled } in
-    set_truthful s t m member new refl refl at goes owning.owns (true_more s.epochs (IsStanding s) (IsStanding t) member.vector (standing_set s t m member new refl at goes) (was.each m member at).truth) was
+    set_truthful s t m member new refl refl at goes owning.owns (true_more s.epochs (IsFilledSomewhere s) (IsFilledSomewhere t) member.vector (standing_set s t m member new refl at goes) (was.each m member at).truth) was
 
 kept_truthful : (s : Service) (m bound : ℕ) (body : List ℕ) (member : Member) → slice_get s.members m ≡ Some member → IsTruthful s → IsTruthful (kept_at s m member bound body).service
 kept_truthful s m bound body member at was =
     let new : Member = record member { appender = kept member.appender bound (submission s bound body) } in
     let t : Service = (kept_at s m member bound body).service in
     let goes : Goes member new = record { filled = λ p full. full } in
-    set_truthful s t m member new refl refl at goes (was.each m member at).owns (true_more s.epochs (IsStanding s) (IsStanding t) member.vector (standing_set s t m member new refl at goes) (was.each m member at).truth) was
+    set_truthful s t m member new refl refl at goes (was.each m member at).owns (true_more s.epochs (IsFilledSomewhere s) (IsFilledSomewhere t) member.vector (standing_set s t m member new refl at goes) (was.each m member at).truth) was
 
 -- one maintainer more
 
-standing_grown : (s : Service) (q p : ℕ) → IsStanding s p → IsStanding (grown s q) p
+standing_grown : (s : Service) (q p : ℕ) → IsFilledSomewhere s p → IsFilledSomewhere (grown s q) p
 standing_grown s q p stands = record {
   number = stands.number;
   member = told_epochs (next_epochs s q) stands.member;
@@ -160,7 +160,7 @@ standing_grown s q p stands = record {
   filled = stands.filled;
 }
 
-standing_low : (s : Service) (n p : ℕ) → IsServing s n → IsStanding s p → p ≤ s.top
+standing_low : (s : Service) (n p : ℕ) → IsServing s n → IsFilledSomewhere s p → p ≤ s.top
 standing_low s n p serving stands = (serving.each stands.number stands.member stands.there).below p stands.filled
 
 grown_truthful : (s : Service) (n q : ℕ) → IsServing s n → late_bound s < q → IsTruthful s → IsTruthful (grown s q)
@@ -169,7 +169,7 @@ grown_truthful s n q serving late was = record {
     | inl old ↦ told_member k member (slice_get s.members k) refl (sym (slice_get-map (told_epochs (next_epochs s q)) s.members k) ∙ old)
     | inr last ↦ subst (IsTruthfulMember (grown s q)) last.1 (record {
       owns = owns_empty (next_epochs s q) (next_epochs s q) (length s.members) (prefix_refl (next_epochs s q));
-      truth = blank_true (next_epochs s q) (IsStanding (grown s q));
+      truth = blank_true (next_epochs s q) (IsFilledSomewhere (grown s q));
     })
   ];
 }
@@ -184,44 +184,44 @@ grown_truthful s n q serving late was = record {
         let here : told_epochs e old ≡ member = same_Some (told_epochs e old) member is in
         subst (IsTruthfulMember (grown s q)) here (record {
           owns = owns_learned e old.appender.maintainer e (owns_later s.epochs new old.appender.maintainer one.owns (λ p full. omega (arith, (serving.each k old at).below p full, late))) (prefix_refl e);
-          truth = true_more e (IsStanding s) (IsStanding (grown s q)) old.vector (standing_grown s q)
-              (true_later s.epochs (IsStanding s) new old.vector first (λ p stands. omega (arith, standing_low s n p serving stands, late)) one.truth);
+          truth = true_more e (IsFilledSomewhere s) (IsFilledSomewhere (grown s q)) old.vector (standing_grown s q)
+              (true_later s.epochs (IsFilledSomewhere s) new old.vector first (λ p stands. omega (arith, standing_low s n p serving stands, late)) one.truth);
         })
 
 -- Each step keeps that, and a head that it tells is that of a true vector.
 
 pub record IsToldBy (t : Service) (s : ℕ) : Type 0 where
   pub vector : Pair
-  pub truth : IsTruePair t.epochs (IsStanding t) vector
+  pub truth : IsTruePair t.epochs (IsFilledSomewhere t) vector
   pub is : s ≡ head vector
 
-pub record IsTruthfulTurn (done : Turned) : Type 0 where
+pub record IsTruthfulTurn (done : StepDone) : Type 0 where
   pub after : IsTruthful done.service
-  pub told : (s : ℕ) → told_by done.outcome ≡ Some s → IsToldBy done.service s
+  pub told : (s : ℕ) → head_told done.outcome ≡ Some s → IsToldBy done.service s
 
 none_told : {A : Type 0} (s : ℕ) → None ≡ Some s → A
 none_told s is = absurd (cc)
 
-silent : (t : Service) (outcome : FlOutcome) → told_by outcome ≡ None → IsTruthful t → IsTruthfulTurn (quiet t outcome)
+silent : (t : Service) (outcome : FlOutcome) → head_told outcome ≡ None → IsTruthful t → IsTruthfulTurn (quiet t outcome)
 silent t outcome none is = record { after = is; told = λ s told. none_told s (sym none ∙ told) }
 
-where_truthful : {A : Type 0} (s : Service) (o : Option A) (go : A → Turned) → IsTruthful s → ((x : A) → o ≡ Some x → IsTruthfulTurn (go x)) → IsTruthfulTurn (where_some s o go)
+where_truthful : {A : Type 0} (s : Service) (o : Option A) (go : A → StepDone) → IsTruthful s → ((x : A) → o ≡ Some x → IsTruthfulTurn (go x)) → IsTruthfulTurn (where_some s o go)
 where_truthful s None go is each = silent s Absent refl is
 where_truthful s (Some x) go is each = each x refl
 
-told_head : (t : Service) (v : Pair) (s : ℕ) → IsTruePair t.epochs (IsStanding t) v → Some (head v) ≡ Some s → IsToldBy t s
+told_head : (t : Service) (v : Pair) (s : ℕ) → IsTruePair t.epochs (IsFilledSomewhere t) v → Some (head v) ≡ Some s → IsToldBy t s
 told_head t v s truth is = record { vector = v; truth = truth; is = sym (same_Some (head v) s is) }
 
-standing_vector : (s : Service) (m : ℕ) (member : Member) (v w : Pair) → slice_get s.members m ≡ Some member → IsTruePair s.epochs (IsStanding s) w → IsTruePair s.epochs (IsStanding (with_member s m (record member { vector = v }))) w
+standing_vector : (s : Service) (m : ℕ) (member : Member) (v w : Pair) → slice_get s.members m ≡ Some member → IsTruePair s.epochs (IsFilledSomewhere s) w → IsTruePair s.epochs (IsFilledSomewhere (with_member s m (record member { vector = v }))) w
 standing_vector s m member v w at truth =
     let new : Member = record member { vector = v } in
-    true_more s.epochs (IsStanding s) (IsStanding (with_member s m new)) w (standing_set s (with_member s m new) m member new refl at (record { filled = λ p full. full })) truth
+    true_more s.epochs (IsFilledSomewhere s) (IsFilledSomewhere (with_member s m new)) w (standing_set s (with_member s m new) m member new refl at (record { filled = λ p full. full })) truth
 
-heard_truthful : (s : Service) (k : ℕ) (note : Pair) → IsTruthful s → IsTruePair s.epochs (IsStanding s) note → IsTruthfulTurn (heard s k note)
+heard_truthful : (s : Service) (k : ℕ) (note : Pair) → IsTruthful s → IsTruePair s.epochs (IsFilledSomewhere s) note → IsTruthfulTurn (heard s k note)
 heard_truthful s k note was truth = where_truthful s (slice_get s.members k) (λ hearer. quiet (with_member s k (record hearer { vector = joined hearer.vector note })) (Heard (head (joined hearer.vector note)))) was
     (λ hearer at. (
     let v : Pair = joined hearer.vector note in
-    let both = joined_true s.epochs (IsStanding s) hearer.vector note (was.each k hearer at).truth truth in
+    let both = joined_true s.epochs (IsFilledSomewhere s) hearer.vector note (was.each k hearer at).truth truth in
     record {
       after = vector_truthful s k hearer v at both was;
       told = λ h told. told_head (with_member s k (record hearer { vector = v })) v h (standing_vector s k hearer v v at both) told;
@@ -243,18 +243,18 @@ head_truthful s n m serving was = where_truthful s (slice_get s.members m) (λ m
       told = λ h told. told_head (owned s m member) (own_vector m member) h (standing_vector s m member (own_vector m member) (own_vector m member) at truth) told;
     }))
 
-shows_none : (o : Option Submission) → told_by (shown o) ≡ None
+shows_none : (o : Option Submission) → head_told (shown o) ≡ None
 shows_none None = refl
 shows_none (Some value) = refl
 
-shows_none_by : (o : Option Member) (p : ℕ) → told_by (shown_by o p) ≡ None
+shows_none_by : (o : Option Member) (p : ℕ) → head_told (shown_by o p) ≡ None
 shows_none_by None p = refl
 shows_none_by (Some keeper) p = shows_none (value_at p keeper.appender.maintainer.entries)
 
 read_truthful : (s : Service) (m p : ℕ) → IsTruthful s → IsTruthfulTurn (read_turn s m p)
 read_truthful s m p was = where_truthful s (slice_get s.members m) (λ member. quiet s (if nat_lt (head member.vector) p then Beyond else shown_by (slice_get s.members (owner s.epochs p)) p)) was
     (λ member at. silent s (cond (ltb (head member.vector) p) Beyond (shown_by (slice_get s.members (owner s.epochs p)) p))
-    (cond_both (ltb (head member.vector) p) Beyond (shown_by (slice_get s.members (owner s.epochs p)) p) (λ o. told_by o ≡ None) (λ _. refl) (λ _. shows_none_by (slice_get s.members (owner s.epochs p)) p)) was)
+    (cond_both (ltb (head member.vector) p) Beyond (shown_by (slice_get s.members (owner s.epochs p)) p) (λ o. head_told o ≡ None) (λ _. refl) (λ _. shows_none_by (slice_get s.members (owner s.epochs p)) p)) was)
 
 put_truthful : (s : Service) (n m : ℕ) (body : List ℕ) → IsServing s n → IsTruthful s → IsTruthfulTurn (put_turn s m body)
 put_truthful s n m body serving was = where_truthful s (slice_get s.members m) (λ member. put_in s m member 0 body) was (λ member at. record { after = put_in_truthful s n m 0 body member serving at was; told = λ h told. none_told h told })
@@ -299,7 +299,7 @@ start_truthful : (round maintainers : ℕ) → IsTruthful (start round maintaine
 start_truthful round maintainers = record {
   each = λ m member at. (
       let e : EpochList = (start round maintainers).epochs in
-      subst (IsTruthfulMember (start round maintainers)) (sym (fresh_at e maintainers m member at)) (record { owns = owns_empty e e m (prefix_refl e); truth = blank_true e (IsStanding (start round maintainers)) }));
+      subst (IsTruthfulMember (start round maintainers)) (sym (fresh_at e maintainers m member at)) (record { owns = owns_empty e e m (prefix_refl e); truth = blank_true e (IsFilledSomewhere (start round maintainers)) }));
 }
 
 additions-append : (xs ys : List FlStep) → additions (xs ++ ys) ≡ additions xs + additions ys
@@ -321,9 +321,9 @@ reached_going script before after fits is =
     subst (IsGoing (reached script before)) (omega arith)
     (going_on (start script.round script.maintainers) 0 before first (omega (arith, fits.steps, size)) (omega (arith, fits.few, added, fresh_length e script.maintainers)) (All-front FitsFlStep before after (subst (All FitsFlStep) is fits.each)))
 
-pub no_gap : (script : FlScript) (before after : List FlStep) (x : FlStep) (s p : ℕ) → FitsFlScript script → script.steps ≡ before ++ x ∷ after → told_by (turn (reached script before) x).outcome ≡ Some s → 1 ≤ p → p ≤ s → IsStanding (turn (reached script before) x).service p
+pub no_gap : (script : FlScript) (before after : List FlStep) (x : FlStep) (s p : ℕ) → FitsFlScript script → script.steps ≡ before ++ x ∷ after → head_told (turn (reached script before) x).outcome ≡ Some s → 1 ≤ p → p ≤ s → IsFilledSomewhere (turn (reached script before) x).service p
 no_gap script before after x s p fits is told first low =
     let going = reached_going script before (x ∷ after) fits is in
     let t : Service = (turn (reached script before) x).service in
     let by = (turn_truthful (reached script before) (length before) x going.serving going.truthful).told s told in
-    head_filled t.epochs (IsStanding t) by.vector p by.truth first (omega (arith, low, by.is))
+    head_filled t.epochs (IsFilledSomewhere t) by.vector p by.truth first (omega (arith, low, by.is))

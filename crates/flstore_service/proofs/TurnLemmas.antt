@@ -20,7 +20,7 @@ use Rattle.flstore_service.specs.declared.run.FlOutcome.TheVariants.{Heard, Head
 use Rattle.flstore_service.specs.declared.service.Member.{Member}
 use Rattle.flstore_service.specs.declared.service.Service.{Service}
 use Rattle.flstore_service.specs.declared.service.Submission.{Submission}
-use Rattle.flstore_service.specs.Running.{after_turn, kept_at, put_in, put_turn, submission, Turned, gossip_turn, head_turn, heard, own_vector, owned, quiet, where_some, with_member}
+use Rattle.flstore_service.specs.Running.{after_turn, kept_at, put_in, put_turn, submission, StepDone, gossip_turn, head_turn, heard, own_vector, owned, quiet, where_some, with_member}
 use Rattle.flstore_service.specs.Sound.{CanLearn, CanTurn}
 
 pub there : {A : Type 0} (xs : List A) (i : ℕ) (x : A) → i < length xs → x ≡ get_or xs i x → slice_get xs i ≡ Some x
@@ -72,14 +72,14 @@ put_in_is s m bound body member sub a lid lids after outcome is_sub is_a is_lid 
     (λ i. quiet (is_after i) (is_outcome i))
     ∙ (λ i. quiet (record s { members = slice_set s.members m (record { appender = state i; vector = member.vector }); count = s.count + 1; top = fold max (max s.top (is_lid i)) (all i) }) (Placed (is_lid i) (all i)))
 
-pub put_turned : (s : Service) (m : ℕ) (body : List ℕ) (member : Member) (done : Turned) → slice_get s.members m ≡ Some member → done ≡ put_in s m member 0 body → done ≡ put_turn s m body
+pub put_turned : (s : Service) (m : ℕ) (body : List ℕ) (member : Member) (done : StepDone) → slice_get s.members m ≡ Some member → done ≡ put_in s m member 0 body → done ≡ put_turn s m body
 put_turned s m body member done is is_done = is_done ∙ sym (ap (λ o. where_some s o (λ x. put_in s m x 0 body)) is)
 
 after_is : (s : Service) (m p : ℕ) (body : List ℕ) (member : Member) → slice_get s.members m ≡ Some member
     → after_turn s m p body ≡ cond (ltb p (next_lid member.appender.maintainer)) (put_in s m member p body) (kept_at s m member p body)
 after_is s m p body member is = ap (λ o. where_some s o (λ x. cond (ltb p (next_lid x.appender.maintainer)) (put_in s m x p body) (kept_at s m x p body))) is
 
-pub after_put : (s : Service) (m p : ℕ) (body : List ℕ) (member : Member) (done : Turned) → slice_get s.members m ≡ Some member → p < next_lid member.appender.maintainer → done ≡ put_in s m member p body → done ≡ after_turn s m p body
+pub after_put : (s : Service) (m p : ℕ) (body : List ℕ) (member : Member) (done : StepDone) → slice_get s.members m ≡ Some member → p < next_lid member.appender.maintainer → done ≡ put_in s m member p body → done ≡ after_turn s m p body
 after_put s m p body member done is low is_done = is_done ∙ sym (cond-true (ltb p (next_lid member.appender.maintainer)) (put_in s m member p body) (kept_at s m member p body) (lt-ltb p (next_lid member.appender.maintainer) low)) ∙ sym (after_is s m p body member is)
 
 pub after_kept : (s : Service) (m p : ℕ) (body : List ℕ) (member : Member) (sub : Submission) (a : AppenderState Submission) → slice_get s.members m ≡ Some member → next_lid member.appender.maintainer ≤ p → sub ≡ submission s p body → a ≡ kept member.appender p sub

@@ -31,14 +31,14 @@ abbrev pub AreAbove : Service → Type 0
 AreAbove s = All (λ (member : Member). StandsAbove (λ value. value.bound) member.appender) s.members
 
 -- some maintainer has position p filled
-pub record IsStanding (s : Service) (p : ℕ) : Type 0 where
+pub record IsFilledSomewhere (s : Service) (p : ℕ) : Type 0 where
   pub number : ℕ
   pub member : Member
   pub there : slice_get s.members number ≡ Some member
   pub filled : IsFilled member.appender.maintainer p
 
 -- the head that an answer tells
-abbrev pub told_by : FlOutcome → Option ℕ
-told_by (Heard s) = Some s
-told_by (HeadAt s) = Some s
-told_by other = None
+abbrev pub head_told : FlOutcome → Option ℕ
+head_told (Heard s) = Some s
+head_told (HeadAt s) = Some s
+head_told other = None

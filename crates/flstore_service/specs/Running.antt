@@ -23,15 +23,15 @@ use Rattle.flstore_service.specs.declared.service.Service.{Service}
 use Rattle.flstore_service.specs.declared.service.Submission.{Submission}
 
 -- the service after a step, and what the step answers
-pub record Turned : Type 0 where
+pub record StepDone : Type 0 where
   pub service : Service
   pub outcome : FlOutcome
 
-abbrev pub quiet : Service → FlOutcome → Turned
+abbrev pub quiet : Service → FlOutcome → StepDone
 quiet s outcome = record { service = s; outcome = outcome }
 
 -- a maintainer that is not there gives no answer but this
-abbrev pub where_some : {A : Type 0} → Service → Option A → (A → Turned) → Turned
+abbrev pub where_some : {A : Type 0} → Service → Option A → (A → StepDone) → StepDone
 where_some s None go = quiet s Absent
 where_some s (Some x) go = go x
 
@@ -44,7 +44,7 @@ abbrev pub submission : Service → ℕ → List ℕ → Submission
 submission s bound body = record { number = s.count + 1; bound = bound; body = body }
 
 -- a value goes in at the next own position of a maintainer, and those that it releases after it
-abbrev pub put_in : Service → ℕ → Member → ℕ → List ℕ → Turned
+abbrev pub put_in : Service → ℕ → Member → ℕ → List ℕ → StepDone
 put_in s m member bound body =
     let r = appended member.appender (submission s bound body) in
     let lid = next_lid member.appender.maintainer in
@@ -54,7 +54,7 @@ put_in s m member bound body =
     }
 
 -- a value waits for a maintainer
-abbrev pub kept_at : Service → ℕ → Member → ℕ → List ℕ → Turned
+abbrev pub kept_at : Service → ℕ → Member → ℕ → List ℕ → StepDone
 kept_at s m member bound body = record {
   service = record s { members = slice_set s.members m (record member { appender = kept member.appender bound (submission s bound body) }); count = s.count + 1 };
   outcome = Kept;
@@ -65,22 +65,22 @@ abbrev pub own_vector : ℕ → Member → Pair
 own_vector m member = with_own member.vector member.appender.maintainer.epochs m (mark_of member.appender.maintainer)
 
 -- each step by its line
-abbrev pub put_turn : Service → ℕ → List ℕ → Turned
+abbrev pub put_turn : Service → ℕ → List ℕ → StepDone
 put_turn s m body = where_some s (slice_get s.members m) (λ member. put_in s m member 0 body)
 
-abbrev pub after_turn : Service → ℕ → ℕ → List ℕ → Turned
+abbrev pub after_turn : Service → ℕ → ℕ → List ℕ → StepDone
 after_turn s m p body = where_some s (slice_get s.members m) (λ member. if nat_lt p (next_lid member.appender.maintainer) then put_in s m member p body else kept_at s m member p body)
 
 abbrev pub owned : Service → ℕ → Member → Service
 owned s m member = with_member s m (record member { vector = own_vector m member })
 
-abbrev pub heard : Service → ℕ → Pair → Turned
+abbrev pub heard : Service → ℕ → Pair → StepDone
 heard s k note = where_some s (slice_get s.members k) (λ hearer. quiet (with_member s k (record hearer { vector = joined hearer.vector note })) (Heard (head (joined hearer.vector note))))
 
-abbrev pub gossip_turn : Service → ℕ → ℕ → Turned
+abbrev pub gossip_turn : Service → ℕ → ℕ → StepDone
 gossip_turn s m k = where_some s (slice_get s.members m) (λ teller. where_some s (slice_get s.members k) (λ _. heard (owned s m teller) k (own_vector m teller)))
 
-abbrev pub head_turn : Service → ℕ → Turned
+abbrev pub head_turn : Service → ℕ → StepDone
 head_turn s m = where_some s (slice_get s.members m) (λ member. quiet (owned s m member) (HeadAt (head (own_vector m member))))
 
 -- what a maintainer shows at a position
@@ -92,7 +92,7 @@ abbrev pub shown_by : Option Member → ℕ → FlOutcome
 shown_by None p = Beyond
 shown_by (Some keeper) p = shown (value_at p keeper.appender.maintainer.entries)
 
-abbrev pub read_turn : Service → ℕ → ℕ → Turned
+abbrev pub read_turn : Service → ℕ → ℕ → StepDone
 read_turn s m p = where_some s (slice_get s.members m) (λ member. quiet s (if nat_lt (head member.vector) p then Beyond else shown_by (slice_get s.members (owner s.epochs p)) p))
 
 -- the greatest of all positions given, and the last epoch's start
@@ -112,11 +112,11 @@ told_epochs e member = record member { appender = record member.appender { maint
 abbrev pub grown : Service → ℕ → Service
 grown s p = record s { epochs = next_epochs s p; members = map (told_epochs (next_epochs s p)) s.members ++ fresh (next_epochs s p) (length s.members) ∷ [] }
 
-abbrev pub add_maintainer_turn : Service → ℕ → Turned
+abbrev pub add_maintainer_turn : Service → ℕ → StepDone
 add_maintainer_turn s p = if nat_le p (late_bound s) then quiet s (Late (late_bound s)) else quiet (grown s p) (EpochAdded p (length s.members + 1))
 
 -- all steps
-abbrev pub turn : Service → FlStep → Turned
+abbrev pub turn : Service → FlStep → StepDone
 turn s (step.Put m body) = put_turn s m body
 turn s (step.After m p body) = after_turn s m p body
 turn s (step.Gossip m k) = gossip_turn s m k

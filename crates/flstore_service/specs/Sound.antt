@@ -7,7 +7,7 @@ use Rattle.flstore_service.specs.declared.service.Member.{Member}
 use Rattle.flstore_service.specs.declared.service.Service.{Service}
 
 -- a maintainer has its number and all epochs, nothing above the greatest position, and its vector's list has begun
-pub record IsMember (s : Service) (m : ℕ) (member : Member) : Type 0 where
+pub record IsSoundMember (s : Service) (m : ℕ) (member : Member) : Type 0 where
   pub number : member.appender.maintainer.number ≡ m
   pub epochs : member.appender.maintainer.epochs ≡ s.epochs
   pub below : (p : ℕ) → IsFilled member.appender.maintainer p → p ≤ s.top
@@ -19,7 +19,7 @@ pub record IsServing (s : Service) (n : ℕ) : Type 0 where
   pub epochs : IsEpochList s.epochs
   pub start : (last_epoch s.epochs).start < 2 ^ 32
   pub members : length s.members ≡ (last_epoch s.epochs).members
-  pub each : (m : ℕ) (member : Member) → slice_get s.members m ≡ Some member → IsMember s m member
+  pub each : (m : ℕ) (member : Member) → slice_get s.members m ≡ Some member → IsSoundMember s m member
   pub count : s.count ≤ n
   pub top : s.top ≤ 2 ^ 32 + n * ((STEPS + 1) * 2 ^ 15)
 

@@ -4,7 +4,7 @@ ghost use Rattle.std.specs.Prelude.{◌≡◌, ℕ, ◌≤◌, ◌++◌, ◌∷�
 ghost use Rattle.flstore_service.specs.declared.script.FlScript.{FlScript};
 ghost use Rattle.flstore_service.specs.declared.script.FlStep.{FlStep};
 ghost use Rattle.flstore_service.specs.Fits.{FitsFlScript};
-ghost use Rattle.flstore_service.specs.Laws.{AreAbove, IsStanding, all_times, once_upto, reached, told_by};
+ghost use Rattle.flstore_service.specs.Laws.{AreAbove, IsFilledSomewhere, all_times, once_upto, reached, head_told};
 ghost use Rattle.flstore_service.specs.Running.{turn};
 
 /// After any steps each value that was not refused stands or waits once, and no other does.
@@ -19,5 +19,5 @@ pub fn values_stand_above_their_bounds()
 
 /// Each position up to a head that is told is filled.
 pub fn heads_pass_no_gap()
-    ensures { (script : FlScript) (before after : List FlStep) (step : FlStep) (s p : ℕ) → FitsFlScript script → script.steps ≡ before ++ step ∷ after → told_by (turn (reached script before) step).outcome ≡ Some s → 1 ≤ p → p ≤ s → IsStanding (turn (reached script before) step).service p }
+    ensures { (script : FlScript) (before after : List FlStep) (step : FlStep) (s p : ℕ) → FitsFlScript script → script.steps ≡ before ++ step ∷ after → head_told (turn (reached script before) step).outcome ≡ Some s → 1 ≤ p → p ≤ s → IsFilledSomewhere (turn (reached script before) step).service p }
 {}

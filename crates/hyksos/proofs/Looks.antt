@@ -29,7 +29,7 @@ use Rattle.hyksos.specs.Sessions.{SessionState, IsFoundAt, begun, is_look, keys_
 use Rattle.hyksos.specs.Shelves.{ShelfState, covered_for, last_at, newest_told, pin_of, pin_told, pinned, with_pin}
 use Rattle.hyksos.specs.declared.next.Next.{Next}
 use Rattle.hyksos.specs.declared.next.Next.TheVariants.{Submitted, Unacknowledged, Finished, Behind as BehindNext}
-use Rattle.hyksos.specs.Turns.{Taken, IsTaken, IsWritten, behind, found_at_pin, key_turn, look, look_turn, reply, rest, turn_of, turn_with, write_turn}
+use Rattle.hyksos.specs.Turns.{AfterTurn, IsAfterTurn, IsWriteTurn, behind, found_at_pin, key_turn, look, look_turn, reply, rest, session_turn, turn_with, write_turn}
 
 -- a last update stands at position 1 or above
 newest_first : (log : List Record) (key : List ℕ) (s p : ℕ) → newest log key s ≡ Some p → 1 ≤ p
@@ -245,17 +245,17 @@ pub given_back : (n s : ℕ) (m : ShelfState) → pin_of m n ≡ None → with_p
 given_back n s m none = ap (λ p. record m { pins = p }) (set_again m.pins n (Some s) None ∙ ap (λ o. set m.pins n o) (sym none) ∙ set-get_or m.pins n None)
 
 -- this is what a turn leaves and answers, so far as it is the same turn
-pub taken_along : (t u : Taken) (next : Next) (x : SessionState) (m : ShelfState) → t ≡ u → IsTaken u next x m → IsTaken t next x m
+pub taken_along : (t u : AfterTurn) (next : Next) (x : SessionState) (m : ShelfState) → t ≡ u → IsAfterTurn u next x m → IsAfterTurn t next x m
 taken_along t u next x m same taken = (taken.0 ∙ ap (λ v. v.next) (sym same), taken.1 ∙ ap (λ v. v.session) (sym same), taken.2 ∙ ap (λ v. v.shelf) (sym same))
 
 pub taken_behind : (log : List Record) (c : Command) (m : ShelfState) (x new : SessionState) (s covered index : ℕ) → sight log c m (length x.found) s ≡ Behind covered → new ≡ reading s x.found x → index ≡ next_index new
-    → IsTaken (look log c m x s) (BehindNext index covered) new m
+    → IsAfterTurn (look log c m x s) (BehindNext index covered) new m
 taken_behind log c m x new s covered index sees is at =
     taken_along (look log c m x s) (behind m x s covered) (BehindNext index covered) new m (seen_behind log c m x s covered sees)
     (ap (λ n. BehindNext n covered) (at ∙ ap next_index is), is, refl)
 
 pub taken_key : (log : List Record) (c : Command) (m held : ShelfState) (x more new : SessionState) (s : ℕ) (found : Found) (next : Next) → next_command x ≡ Some c → sight log c m (length x.found) s ≡ Key found → IsFoundAt log s x
-    → more ≡ with_found found x → (IsFoundAt log s more → IsTaken (found_at_pin log (next_keys more) m more s more.found) next new held) → IsTaken (look log c m x s) next new held
+    → more ≡ with_found found x → (IsFoundAt log s more → IsAfterTurn (found_at_pin log (next_keys more) m more s more.found) next new held) → IsAfterTurn (look log c m x s) next new held
 taken_key log c m held x more new s found next is sees so_far grown taken =
     let keys : next_keys x ≡ keys_of c = keys_next x c is in
     let on = seen_key log c m x s found sees in
@@ -265,31 +265,31 @@ taken_key log c m held x more new s found next is sees so_far grown taken =
     (on.turn ∙ ap (λ ks. found_at_pin log ks m x s (x.found ++ found ∷ [])) (sym keys) ∙ ap (λ y. found_at_pin log (next_keys y) m y s y.found) (sym grown)) (taken have)
 
 pub taken_whole : (log : List Record) (c : Command) (m held : ShelfState) (x new : SessionState) (s : ℕ) (next : Next) → next_command x ≡ Some c → is_look c ≡ true → sight log c m (length x.found) s ≡ Whole
-    → IsTaken (found_at_pin log (next_keys x) m x s x.found) next new held → IsTaken (look log c m x s) next new held
+    → IsAfterTurn (found_at_pin log (next_keys x) m x s x.found) next new held → IsAfterTurn (look log c m x s) next new held
 taken_whole log c m held x new s next is looks sees taken =
     taken_along (look log c m x s) (found_at_pin log (next_keys x) m x s x.found) next new held
     (seen_whole log c m x s looks sees ∙ ap (λ ks. found_at_pin log ks m x s x.found) (sym (keys_next x c is))) taken
 
 pub taken_places : (log : List Record) (c : Command) (m held : ShelfState) (x new : SessionState) (s : ℕ) (places : List Place) (next : Next) → sight log c m (length x.found) s ≡ Places places
-    → IsTaken (reply m x s (Last places)) next new held → IsTaken (look log c m x s) next new held
+    → IsAfterTurn (reply m x s (Last places)) next new held → IsAfterTurn (look log c m x s) next new held
 taken_places log c m held x new s places next sees taken = taken_along (look log c m x s) (reply m x s (Last places)) next new held (seen_places log c m x s places sees) taken
 
 -- the turn of a session with this command
-turn_is : (log : List Record) (m : ShelfState) (x : SessionState) (c : Command) → next_command x ≡ Some c → turn_of log m x ≡ turn_with log m x c
+turn_is : (log : List Record) (m : ShelfState) (x : SessionState) (c : Command) → next_command x ≡ Some c → session_turn log m x ≡ turn_with log m x c
 turn_is log m x c is = ap (λ o. option_map_or (turn_with log m x) o (rest m x)) is
 
 pub taken_write : (log : List Record) (m : ShelfState) (x new : SessionState) (c : Command) (result : Result Next NoMemory) → next_command x ≡ Some c → turn_with log m x c ≡ write_turn m x c
-    → IfOk result (λ next. IsWritten c x next new) → IfOk result (λ next. IsTaken (turn_of log m x) next new m)
-taken_write log m x new c (Ok next) is with written = taken_along (turn_of log m x) (write_turn m x c) next new m (turn_is log m x c is ∙ with) ((written m).0, (written m).1, by_test x.standing.begun)
+    → IfOk result (λ next. IsWriteTurn c x next new) → IfOk result (λ next. IsAfterTurn (session_turn log m x) next new m)
+taken_write log m x new c (Ok next) is with written = taken_along (session_turn log m x) (write_turn m x c) next new m (turn_is log m x c is ∙ with) ((written m).0, (written m).1, by_test x.standing.begun)
   where
-    by_test : (b : Bool) → m ≡ (cond {A = Taken} b (record { session = x; shelf = m; next = Unacknowledged (next_index x) }) (record { session = begun x; shelf = m; next = option_map_or Submitted (draft_of x.number (next_index x) x.standing.past c) Finished })).shelf
+    by_test : (b : Bool) → m ≡ (cond {A = AfterTurn} b (record { session = x; shelf = m; next = Unacknowledged (next_index x) }) (record { session = begun x; shelf = m; next = option_map_or Submitted (draft_of x.number (next_index x) x.standing.past c) Finished })).shelf
     by_test true = refl
     by_test false = refl
 taken_write log m x new c (Err fault) is with written = tt
 
 pub taken_look : (log : List Record) (m held : ShelfState) (x new : SessionState) (c : Command) (result : Result Next NoMemory) → next_command x ≡ Some c → turn_with log m x c ≡ look_turn log m x c
-    → IfOk result (λ next. IsTaken (look_turn log m x c) next new held) → IfOk result (λ next. IsTaken (turn_of log m x) next new held)
-taken_look log m held x new c (Ok next) is with taken = taken_along (turn_of log m x) (look_turn log m x c) next new held (turn_is log m x c is ∙ with) taken
+    → IfOk result (λ next. IsAfterTurn (look_turn log m x c) next new held) → IfOk result (λ next. IsAfterTurn (session_turn log m x) next new held)
+taken_look log m held x new c (Ok next) is with taken = taken_along (session_turn log m x) (look_turn log m x c) next new held (turn_is log m x c is ∙ with) taken
 taken_look log m held x new c (Err fault) is with taken = tt
 
 -- a pin that was taken and given back in one turn

@@ -24,6 +24,6 @@ mod session;
 mod shelf;
 mod trying;
 
-pub use next::{Next, Turned};
+pub use next::{Next, SessionTurnDone};
 pub use session::Session;
 pub use shelf::Shelf;

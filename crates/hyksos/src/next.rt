@@ -6,7 +6,7 @@ use cz_base::Lid;
 
 /// What a turn of a session did.
 #[derive(Debug, Drop)]
-pub struct Turned {
+pub struct SessionTurnDone {
     /// The number of the command that it began, if it began one.
     pub opened: Option<u32>,
     /// How far the session is after it.

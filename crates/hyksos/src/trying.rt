@@ -5,11 +5,11 @@ ghost use Rattle.abstract_log.specs.declared.command.Command.{Command as Command
 ghost use Rattle.hyksos.specs.Looking.{sight};
 ghost use Rattle.hyksos.specs.Sessions.{AreCommands, HasFound, IsFoundAt, begun, is_look, next_command, next_index, next_keys, reading, replied, with_found};
 ghost use Rattle.hyksos.specs.Shelves.{pin_of, with_pin};
-ghost use Rattle.hyksos.specs.Turns.{IsTaken, IsWritten, look, look_turn, opened, read_turn, reply, found_at_pin, turn_of, turned, wait, write_turn};
+ghost use Rattle.hyksos.specs.Turns.{IsAfterTurn, IsWriteTurn, look, look_turn, opened, read_turn, reply, found_at_pin, session_turn, turned, wait, write_turn};
 ghost use Rattle.cz_base.specs.declared.limits.TheConstants.{SESSIONS};
 
 use crate::looking::{Seen, list, look_up, read};
-use crate::{Next, Session, Shelf, Turned};
+use crate::{Next, Session, SessionTurnDone, Shelf};
 use abstract_log::{Answer, Command, Found, raise_answer};
 use causal_deps::Pin;
 use cz_base::{Lid, NoMemory};
@@ -17,19 +17,19 @@ use cz_base::{Lid, NoMemory};
 impl Session {
     /// The session begins its next command, or goes on with the one that is open. A refused call changes neither
     /// the session nor what the shelf holds.
-    pub fn try_next<V: Shelf>(&mut self, shelf: &mut V) -> Result<Turned, NoMemory>
+    pub fn try_next<V: Shelf>(&mut self, shelf: &mut V) -> Result<SessionTurnDone, NoMemory>
         requires number { self.old.number < SESSIONS }
         requires log { (log : List RecordValue) × V.shows shelf.old log }
         requires pin { pin_of (V.held shelf.old) self.old.number ≡ self.old.pin }
         ensures turned { (log : List RecordValue) → V.shows shelf.old log → HasFound log self.old → IfOk result (λ t. t ≡ turned log (V.held shelf.old) self.old) }
-        ensures session { (log : List RecordValue) → V.shows shelf.old log → HasFound log self.old → OnOk result (self.new ≡ (turn_of log (V.held shelf.old) self.old).session) }
-        ensures shelf { (log : List RecordValue) → V.shows shelf.old log → HasFound log self.old → OnOk result (V.held shelf.new ≡ (turn_of log (V.held shelf.old) self.old).shelf) }
+        ensures session { (log : List RecordValue) → V.shows shelf.old log → HasFound log self.old → OnOk result (self.new ≡ (session_turn log (V.held shelf.old) self.old).session) }
+        ensures shelf { (log : List RecordValue) → V.shows shelf.old log → HasFound log self.old → OnOk result (V.held shelf.new ≡ (session_turn log (V.held shelf.old) self.old).shelf) }
         ensures log { (log : List RecordValue) → V.shows shelf.old log → V.shows shelf.new log }
         ensures refused { OnErr result ((self.new ≡ self.old) × (V.held shelf.new ≡ V.held shelf.old)) }
     {
         let opened = self.opened();
         let next = self.go(shelf)?;
-        Ok(Turned { opened, next })
+        Ok(SessionTurnDone { opened, next })
     }
 
     // How far the command is after this turn.
@@ -37,7 +37,7 @@ impl Session {
         requires number { self.old.number < SESSIONS }
         requires log { (log : List RecordValue) × V.shows shelf.old log }
         requires pin { pin_of (V.held shelf.old) self.old.number ≡ self.old.pin }
-        ensures ok { (log : List RecordValue) → V.shows shelf.old log → HasFound log self.old → IfOk result (λ next. IsTaken (turn_of log (V.held shelf.old) self.old) next self.new (V.held shelf.new)) }
+        ensures ok { (log : List RecordValue) → V.shows shelf.old log → HasFound log self.old → IfOk result (λ next. IsAfterTurn (session_turn log (V.held shelf.old) self.old) next self.new (V.held shelf.new)) }
         ensures log { (log : List RecordValue) → V.shows shelf.old log → V.shows shelf.new log }
         ensures refused { OnErr result ((self.new ≡ self.old) × (V.held shelf.new ≡ V.held shelf.old)) }
     {
@@ -69,7 +69,7 @@ impl Session {
     // The draft of a write that is not open yet.
     fn write(&mut self) -> Result<Next, NoMemory>
         requires { IsSome (next_command self.old) }
-        ensures ok { (c : CommandValue) → next_command self.old ≡ Some c → IfOk result (λ next. IsWritten c self.old next self.new) }
+        ensures ok { (c : CommandValue) → next_command self.old ≡ Some c → IfOk result (λ next. IsWriteTurn c self.old next self.new) }
         ensures refused { OnErr result (self.new ≡ self.old) }
     {
         let index = self.index();
@@ -89,7 +89,7 @@ impl Session {
         requires next { IsSome (next_command self.old) }
         requires first { 1 ≤ lid }
         requires log { (log : List RecordValue) × V.shows shelf.now log }
-        ensures ok { (log : List RecordValue) → V.shows shelf.now log → IfOk result (λ next. IsTaken (read_turn log (V.held shelf.now) self.old lid) next self.new (V.held shelf.now)) }
+        ensures ok { (log : List RecordValue) → V.shows shelf.now log → IfOk result (λ next. IsAfterTurn (read_turn log (V.held shelf.now) self.old lid) next self.new (V.held shelf.now)) }
         ensures refused { OnErr result (self.new ≡ self.old) }
     {
         let head = shelf.head();
@@ -106,7 +106,7 @@ impl Session {
         requires log { (log : List RecordValue) × V.shows shelf.old log }
         requires pin { pin_of (V.held shelf.old) self.old.number ≡ self.old.pin }
         requires looks { IsSomeAnd (next_command self.old) (λ c. is_look c ≡ true) }
-        ensures ok { (log : List RecordValue) (c : CommandValue) → V.shows shelf.old log → HasFound log self.old → next_command self.old ≡ Some c → IfOk result (λ next. IsTaken (look_turn log (V.held shelf.old) self.old c) next self.new (V.held shelf.new)) }
+        ensures ok { (log : List RecordValue) (c : CommandValue) → V.shows shelf.old log → HasFound log self.old → next_command self.old ≡ Some c → IfOk result (λ next. IsAfterTurn (look_turn log (V.held shelf.old) self.old c) next self.new (V.held shelf.new)) }
         ensures log { (log : List RecordValue) → V.shows shelf.old log → V.shows shelf.new log }
         ensures refused { OnErr result ((self.new ≡ self.old) × (V.held shelf.new ≡ V.held shelf.old)) }
     {
@@ -135,7 +135,7 @@ impl Session {
         requires log { (log : List RecordValue) × V.shows shelf.old log }
         requires pin { pin_of (V.held shelf.old) self.old.number ≡ Some s }
         requires looks { IsSomeAnd (next_command self.old) (λ c. is_look c ≡ true) }
-        ensures ok { (log : List RecordValue) (c : CommandValue) → V.shows shelf.old log → IsFoundAt log s self.old → next_command self.old ≡ Some c → IfOk result (λ next. IsTaken (look log c (V.held shelf.old) self.old s) next self.new (V.held shelf.new)) }
+        ensures ok { (log : List RecordValue) (c : CommandValue) → V.shows shelf.old log → IsFoundAt log s self.old → next_command self.old ≡ Some c → IfOk result (λ next. IsAfterTurn (look log c (V.held shelf.old) self.old s) next self.new (V.held shelf.new)) }
         ensures log { (log : List RecordValue) → V.shows shelf.old log → V.shows shelf.new log }
         ensures refused { OnErr result ((self.new ≡ self.old) × (V.held shelf.new ≡ with_pin self.old.number None (V.held shelf.old))) }
     {
@@ -154,7 +154,7 @@ impl Session {
         requires log { (log : List RecordValue) × V.shows shelf.old log }
         requires pin { pin_of (V.held shelf.old) self.old.number ≡ Some s }
         requires looks { IsSomeAnd (next_command self.old) (λ c. is_look c ≡ true) }
-        ensures ok { (log : List RecordValue) (c : CommandValue) → V.shows shelf.old log → IsFoundAt log s self.old → next_command self.old ≡ Some c → IfOk result (λ next. IsTaken (look log c (V.held shelf.old) self.old s) next self.new (V.held shelf.new)) }
+        ensures ok { (log : List RecordValue) (c : CommandValue) → V.shows shelf.old log → IsFoundAt log s self.old → next_command self.old ≡ Some c → IfOk result (λ next. IsAfterTurn (look log c (V.held shelf.old) self.old s) next self.new (V.held shelf.new)) }
         ensures log { (log : List RecordValue) → V.shows shelf.old log → V.shows shelf.new log }
         ensures refused { OnErr result ((self.new ≡ self.old) × (V.held shelf.new ≡ V.held shelf.old)) }
     {
@@ -217,7 +217,7 @@ impl Session {
         requires number { self.old.number < SESSIONS }
         requires pin { IsSome (pin_of (V.held shelf.old) self.old.number) }
         requires next { IsSome (next_command self.old) }
-        ensures taken { (log : List RecordValue) → IsFoundAt log s self.old → IsTaken (found_at_pin log (next_keys self.old) (V.held shelf.old) self.old s self.old.found) result self.new (V.held shelf.new) }
+        ensures taken { (log : List RecordValue) → IsFoundAt log s self.old → IsAfterTurn (found_at_pin log (next_keys self.old) (V.held shelf.old) self.old s self.old.found) result self.new (V.held shelf.new) }
         ensures log { (log : List RecordValue) → V.shows shelf.old log → V.shows shelf.new log }
     {
         let done = self.found.len();
@@ -257,7 +257,7 @@ impl Session {
         requires number { self.old.number < SESSIONS }
         requires pin { IsSome (pin_of (V.held shelf.old) self.old.number) }
         requires next { IsSome (next_command self.old) }
-        ensures taken { IsTaken (reply (V.held shelf.old) self.old s answer) result self.new (V.held shelf.new) }
+        ensures taken { IsAfterTurn (reply (V.held shelf.old) self.old s answer) result self.new (V.held shelf.new) }
         ensures log { (log : List RecordValue) → V.shows shelf.old log → V.shows shelf.new log }
     {
         let number = self.number;

@@ -45,7 +45,7 @@ pub record AreHeld (floor : ℕ) (pins : List (Option ℕ)) : Type 0 where
 
 -- A record at lid that may go: it is at or below the floor, every datacentre is known to have it, and if it is a put
 -- there is a later update of its key at or below the floor.
-pub record IsCollectable (floor : ℕ) (table : List (List ℕ)) (lid : ℕ) (rec : Record) (newer : Option ℕ) : Type 0 where
+pub record MayBeLetGo (floor : ℕ) (table : List (List ℕ)) (lid : ℕ) (rec : Record) (newer : Option ℕ) : Type 0 where
   pub low : lid ≤ floor
   pub known : IsKnownEverywhere table rec.host rec.toid
   pub replaced : rec.kind ≡ Put → IsSomeAnd newer (λ n. (lid < n) × (n ≤ floor))

@@ -1,6 +1,8 @@
 //! The laws of runs: what holds of every world that a run of the abstract log leaves. Each law is the contract of
 //! a public function that does nothing; the premises are the definitions of the log alone, so whoever shows that
 //! what a pipeline does is a run has all of them.
+//!
+//! Tests: none; the laws are proved, and `test_log` runs what they speak of.
 #![tactic(auto)]
 
 mod laws;

@@ -43,8 +43,8 @@ module _ {A : Type 0} (m : A) where
   put_stays ms within = (stays_full ms within, full_stays ms)
 
   -- a test of a full link's messages tells it
-  pub test_stays : (test : Bool) (packets ms : List A) → packets ≡ ms → length ms ≡ 64 → IsTrue test ↔ All IsThis packets → IsTrue test ↔ (put_last ms m ≡ ms)
-  test_stays test packets ms same full exact = (
-    λ passed. full_stays ms (record { full = full; each = subst (All IsThis) same (exact.0 passed) }),
-    λ stays. exact.1 (subst (All IsThis) (sym same) (stays_full ms (omega (arith, full)) stays).each),
+  pub test_stays : (test : Bool) (ms : List A) → length ms ≡ 64 → IsTrue test ↔ All IsThis ms → IsTrue test ↔ (put_last ms m ≡ ms)
+  test_stays test ms full exact = (
+    λ passed. full_stays ms (record { full = full; each = exact.0 passed }),
+    λ stays. exact.1 (stays_full ms (omega (arith, full)) stays).each,
   )

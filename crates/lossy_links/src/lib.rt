@@ -5,8 +5,8 @@
 //! first, of which there are never more than [`cz_base::limits::PACKETS`].
 //!
 //! To the layer above: each call gives the next such list exactly. A packet leaves as it came, only the calls
-//! that lose do lose, and only a copy repeats (`laws`). [`Link::is_full_of`] tells whether a put would leave the
-//! list as it is, which is so exactly where the link is full of packets equal to the one that is put.
+//! that lose do lose, and only a copy repeats (`laws`). A put leaves the list as it is exactly where the link is full of
+//! packets equal to the one that is put ([`equal_packets_change_nothing`]).
 //!
 //! Decided: a link takes all its room when it is made, so that no put wants memory. Where a full link is given
 //! one more packet, the oldest is lost and handed back, so that the caller can tell of it. The definitions hold

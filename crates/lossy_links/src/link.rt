@@ -1,7 +1,8 @@
 //! A link: the packets that are under way, and what each call does to their list.
 
-ghost use Rattle.std.specs.Prelude.{◌≡◌, ◌≤◌, ◌↔◌, [], length, All, None, Ok, IsSome, IsNone, IsTrue, IfOk, OnOk, OnErr};
-ghost use Rattle.lossy_links.specs.Links.{IsFullOf, message_at, without, put_last, lost_by_put, copied, answer_to_copy};
+ghost use Rattle.std.specs.Option.{option_copied};
+ghost use Rattle.std.specs.Prelude.{◌≡◌, ◌≤◌, ◌↔◌, [], length, None, Ok, IsSome, IsNone, IsTrue, IfOk, OnOk, OnErr};
+ghost use Rattle.lossy_links.specs.Links.{message_at, without, put_last, lost_by_put, copied, answer_to_copy};
 ghost use Rattle.cz_base.specs.declared.limits.TheConstants.{PACKETS};
 
 use crate::Packet;
@@ -80,26 +81,22 @@ impl Link {
         Some(oldest)
     }
 
-    /// Whether the packet would leave the link as it is, were it put: the link is full, and each of its packets has the
-    /// same bytes. They are compared only where the link is full. No memory is taken.
-    pub fn is_full_of(&self, packet: &Packet) -> bool
-        ensures stays { IsTrue result ↔ (put_last self.now packet.now ≡ self.now) }
-        ensures value { IsTrue result ↔ IsFullOf packet.now self.now }
-        ensures within { length self.now ≤ PACKETS }
+    /// The packets on their way, the oldest first.
+    pub fn packets(&self) -> &[Packet]
+        ensures { result.now ≡ self.now }
     {
-        self.packets.len() == PACKETS && are_all(&self.packets, packet)
+        &self.packets
     }
 
-    /// Whether a copy of packet k would leave the link as it is: there is no packet k, or the link is full of packets with its
-    /// bytes. No memory is taken.
-    pub fn is_kept_by_copy(&self, k: u32) -> bool
-        ensures { IsTrue result ↔ (copied self.now k ≡ self.now) }
+    /// Packet k, or `None` exactly where there is none.
+    pub fn packet(&self, k: u32) -> Option<&Packet>
+        ensures { option_copied result ≡ message_at self.now k }
     {
         let k = k as usize;
         if k == 0 || self.packets.len() < k {
-            return true;
+            return None;
         }
-        self.is_full_of(&self.packets[k - 1])
+        Some(&self.packets[k - 1])
     }
 
     /// Takes packet k out, or answers `None` exactly where there is none. No memory is taken.
@@ -141,11 +138,4 @@ impl Link {
             None => Ok(Copied::Done),
         }
     }
-}
-
-// Whether each of the packets has the bytes of this one.
-fn are_all(packets: &[Packet], packet: &Packet) -> bool
-    ensures { IsTrue result ↔ All (λ bytes. bytes ≡ packet.now) packets.now }
-{
-    packets.iter().all(|held| held == packet)
 }

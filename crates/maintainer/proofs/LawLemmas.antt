@@ -8,7 +8,7 @@ use Rattle.flstore_rounds.specs.declared.epochs.Epoch.{Epoch}
 use Rattle.flstore_rounds.specs.Epochs.{EpochList, owner, longer, later_than, IsNextOwn, IsPrefix, IsSettled}
 use Rattle.flstore_rounds.specs.Heads.{IsTrueMark}
 use Rattle.maintainer.specs.declared.slot.Slot.{Slot}
-use Rattle.maintainer.specs.Marks.{IsReached}
+use Rattle.maintainer.specs.Marks.{IsOwnReached}
 use Rattle.maintainer.specs.Maintainers.{MaintainerState, IsOwn, IsFilled, IsMark, OwnsAll, times_in, times_filled, value_at, put_in, placed, learned, mark_of}
 use Rattle.maintainer.proofs.MarkLemmas.{reached_filled, mark_gap, reached_more, mark_alike, mark_below_reached}
 use Rattle.maintainer.proofs.MarkOf.{is_mark, mark_is}
@@ -52,7 +52,7 @@ module _ {T : Type 0} where
   mark_filled m p own low = reached_filled (IsOwn m) (IsFilled m) (mark_of m) p (is_mark m).reached low own.first own
 
   -- a mark is 1 at least
-  pub reached_first : (m : MaintainerState T) (filled : ℕ → Type 0) (k : ℕ) → IsReached (IsOwn m) filled k → 1 ≤ k
+  pub reached_first : (m : MaintainerState T) (filled : ℕ → Type 0) (k : ℕ) → IsOwnReached (IsOwn m) filled k → 1 ≤ k
   reached_first m filled k reached = elim reached [ inl one ↦ omega arith | inr at ↦ omega (arith, at.1) ]
 
   pub mark_ends : (m : MaintainerState T) (q : ℕ) → IsNextOwn m.epochs m.number (mark_of m) q → IsFilled m q → ⊥

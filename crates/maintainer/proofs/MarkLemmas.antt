@@ -1,17 +1,17 @@
 -- What follows of a mark, for any positions of one's own of which some are filled.
 use Rattle.std.proofs.Common.{◌≡◌, ℕ, ◌<◌, ◌≤◌, sym, ◌∙◌, subst, inl, inr, arith}
 use Rattle.std.proofs.lemmas.Bool.{cases_lt, cases_eq}
-use Rattle.maintainer.specs.Marks.{IsGapless, IsReached, IsMarkOf}
+use Rattle.maintainer.specs.Marks.{IsGapless, IsOwnReached, IsMarkOf}
 
 module _ (own filled : ℕ → Type 0) where
-  pub reached_filled : (k p : ℕ) → IsReached own filled k → p < k → 1 ≤ p → own p → filled p
+  pub reached_filled : (k p : ℕ) → IsOwnReached own filled k → p < k → 1 ≤ p → own p → filled p
   reached_filled k p reached low first here = elim reached [
     | inl none ↦ absurd (omega arith)
     | inr at ↦ at.2.all p (omega (arith, at.1)) here
   ]
 
   -- no own position lies between k, up to which there is no gap, and q, which is filled
-  pub gapless_on : (k q : ℕ) → IsReached own filled k → ((p : ℕ) → own p → 1 ≤ p) → own q → filled q → ((p : ℕ) → k ≤ p → p < q → own p → ⊥) → IsGapless own filled q
+  pub gapless_on : (k q : ℕ) → IsOwnReached own filled k → ((p : ℕ) → own p → 1 ≤ p) → own q → filled q → ((p : ℕ) → k ≤ p → p < q → own p → ⊥) → IsGapless own filled q
   gapless_on k q reached first here full none = record {
     here = here;
     all = λ p le is. elim (cases_lt p k) [
@@ -24,7 +24,7 @@ module _ (own filled : ℕ → Type 0) where
   }
 
   -- the next own position from k on is not filled
-  pub mark_at_gap : (k q : ℕ) → IsReached own filled k → own q → (filled q → ⊥) → ((p : ℕ) → k ≤ p → p < q → own p → ⊥) → IsMarkOf own filled k
+  pub mark_at_gap : (k q : ℕ) → IsOwnReached own filled k → own q → (filled q → ⊥) → ((p : ℕ) → k ≤ p → p < q → own p → ⊥) → IsMarkOf own filled k
   mark_at_gap k q reached here vacant none = record {
     reached = reached;
     greatest = λ p full. elim (cases_lt p k) [
@@ -37,7 +37,7 @@ module _ (own filled : ℕ → Type 0) where
   }
 
   -- no own position from k on is filled
-  pub mark_at_end : (k : ℕ) → IsReached own filled k → ((p : ℕ) → k ≤ p → filled p → ⊥) → IsMarkOf own filled k
+  pub mark_at_end : (k : ℕ) → IsOwnReached own filled k → ((p : ℕ) → k ≤ p → filled p → ⊥) → IsMarkOf own filled k
   mark_at_end k reached none = record {
     reached = reached;
     greatest = λ p full. elim (cases_lt p k) [
@@ -51,7 +51,7 @@ module _ (own filled : ℕ → Type 0) where
   mark_gap k q mark first high here none full = let low : q < k = mark.greatest q (gapless_on k q mark.reached first here full none) in absurd (omega arith)
 
   -- no mark is below what is reached
-  pub mark_below_reached : (k l : ℕ) → ((p : ℕ) → own p → 1 ≤ p) → IsReached own filled k → IsMarkOf own filled l → k ≤ l
+  pub mark_below_reached : (k l : ℕ) → ((p : ℕ) → own p → 1 ≤ p) → IsOwnReached own filled k → IsMarkOf own filled l → k ≤ l
   mark_below_reached k l first reached mark = elim reached [
     | inl low ↦ elim mark.reached [
       | inl also ↦ omega (arith, low, also)
@@ -73,7 +73,7 @@ module _ (own filled : ℕ → Type 0) where
   ]
 
 -- where more positions are filled
-pub reached_more : (own filled more : ℕ → Type 0) → ((p : ℕ) → filled p → more p) → (k : ℕ) → IsReached own filled k → IsReached own more k
+pub reached_more : (own filled more : ℕ → Type 0) → ((p : ℕ) → filled p → more p) → (k : ℕ) → IsOwnReached own filled k → IsOwnReached own more k
 reached_more own filled more grows k reached = elim reached [
   | inl low ↦ inl low
   | inr at ↦ inr (at.0, at.1, record { here = at.2.here; all = λ q le is. grows q (at.2.all q le is) })

@@ -5,7 +5,7 @@ use Rattle.std.proofs.lemmas.Bool.{cases_lt, cases_eq, cond_both, cond-false, eq
 use Rattle.std.proofs.lemmas.List.Elements.{All-nil, All-cons, All-head, All-tail}
 use Rattle.std.proofs.lemmas.List.Sums.{sum_by-cons}
 use Rattle.flstore_rounds.specs.Epochs.{owner}
-use Rattle.maintainer.specs.Marks.{IsReached}
+use Rattle.maintainer.specs.Marks.{IsOwnReached}
 use Rattle.maintainer.specs.declared.slot.Slot.{Slot}
 use Rattle.maintainer.specs.Maintainers.{MaintainerState, IsOwn, IsFilled, IsMark, times, times_in, times_filled, greatest, mark_from, mark_of}
 use Rattle.maintainer.proofs.MarkLemmas.{gapless_on, mark_unique}
@@ -27,7 +27,7 @@ times-none p (q ∷ qs) none =
 
 module _ {T : Type 0} (m : MaintainerState T) where
   -- nothing is filled from p + n on, and no own position lies from k to p
-  mark_goes : (n p k : ℕ) → 1 ≤ p → k ≤ p → IsReached (IsOwn m) (IsFilled m) k → ((q : ℕ) → k ≤ q → q < p → IsOwn m q → ⊥) → ((q : ℕ) → p + n ≤ q → IsFilled m q → ⊥) → IsMark m (mark_from m n p k)
+  mark_goes : (n p k : ℕ) → 1 ≤ p → k ≤ p → IsOwnReached (IsOwn m) (IsFilled m) k → ((q : ℕ) → k ≤ q → q < p → IsOwn m q → ⊥) → ((q : ℕ) → p + n ≤ q → IsFilled m q → ⊥) → IsMark m (mark_from m n p k)
   mark_goes zero p k first low reached none empty = record {
     reached = reached;
     greatest = λ q full. elim (cases_lt q k) [

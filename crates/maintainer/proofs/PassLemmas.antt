@@ -4,7 +4,7 @@ use Rattle.std.specs.List.{All, AllWithin, Contains, insert, list_any}
 use Rattle.std.proofs.lemmas.Bool.{cases_Bool, cases_lt, cond-false, ne_eqb}
 use Rattle.flstore_rounds.specs.Epochs.{EpochList, owner, longer, IsNextOwn, IsPrefix, IsSettled}
 use Rattle.maintainer.specs.declared.slot.Slot.{Slot}
-use Rattle.maintainer.specs.Marks.{IsReached, IsMarkOf}
+use Rattle.maintainer.specs.Marks.{IsOwnReached, IsMarkOf}
 use Rattle.maintainer.specs.Maintainers.{AreKept, AreLetGo, IsOwnedBy, IsFilledBy, IsSound, MaintainerState, IsOwn, IsFilled, times, times_in, value_at, put_in, placed, mark_of}
 use Rattle.maintainer.proofs.CountLemmas.{counts_itself, entry_counted, gone_test, position_counted, position_counts, position_there}
 use Rattle.maintainer.proofs.MarkLemmas.{gapless_on, mark_at_gap, mark_at_end, reached_more, mark_alike}
@@ -20,7 +20,7 @@ module _ (epochs : EpochList) (number : ℕ) (filled : ℕ → Type 0) where
   pub record IsPassing (k : ℕ) : Type 0 where
     pub first : 1 ≤ k
     pub small : k ≤ 2 ^ 48
-    pub reached : IsReached (IsOwnedBy epochs number) filled k
+    pub reached : IsOwnReached (IsOwnedBy epochs number) filled k
 
   -- between a reached position and the next own one none is own
   none_between : (k q : ℕ) → IsNextOwn epochs number k q → (p : ℕ) → k ≤ p → p < q → IsOwnedBy epochs number p → ⊥
@@ -45,7 +45,7 @@ module _ (epochs : EpochList) (number : ℕ) (filled : ℕ → Type 0) where
   passing_stops k q now next vacant = mark_at_gap (IsOwnedBy epochs number) filled k q now.reached (own_next k q now.first next) vacant (none_between k q next)
 
 -- a mark is 1 at least
-pub mark_first : (epochs : EpochList) (number : ℕ) (filled : ℕ → Type 0) (k : ℕ) → IsReached (IsOwnedBy epochs number) filled k → 1 ≤ k
+pub mark_first : (epochs : EpochList) (number : ℕ) (filled : ℕ → Type 0) (k : ℕ) → IsOwnReached (IsOwnedBy epochs number) filled k → 1 ≤ k
 mark_first epochs number filled k reached = elim reached [ inl one ↦ omega arith | inr at ↦ omega (arith, at.1) ]
 
 module _ {T : Type 0} where
@@ -162,8 +162,8 @@ module _ {T : Type 0} (m : MaintainerState T) (number : ℕ) (epochs : EpochList
   pub placing_small : (zs : List ℕ) → zs ≡ gone → (p : ℕ) → IsFilledBy new zs p → p < 2 ^ 48
   placing_small zs is p full = filled_small epochs number new gone placing_kept placing_let_go p (subst (λ ps. IsFilledBy new ps p) is full)
 
-  pub placing_reached : (zs : List ℕ) → zs ≡ gone → IsReached (IsOwnedBy epochs number) (IsFilledBy new zs) k
-  placing_reached zs is = subst (λ ps. IsReached (IsOwnedBy epochs number) (IsFilledBy new ps) k) (sym is)
+  pub placing_reached : (zs : List ℕ) → zs ≡ gone → IsOwnReached (IsOwnedBy epochs number) (IsFilledBy new zs) k
+  placing_reached zs is = subst (λ ps. IsOwnReached (IsOwnedBy epochs number) (IsFilledBy new ps) k) (sym is)
       (reached_more (IsOwnedBy epochs number) (IsFilledBy slots gone) (IsFilledBy new gone) (λ p full. omega (arith, counts p)) k sound.mark.reached)
 
   pub placing_sound : (xs : List (Slot T)) (zs : List ℕ) (l : ℕ) → xs ≡ new → zs ≡ gone → IsMarkOf (IsOwnedBy epochs number) (IsFilledBy xs zs) l → IsSound number epochs new gone l

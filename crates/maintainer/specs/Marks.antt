@@ -7,10 +7,10 @@ pub record IsGapless (own filled : ℕ → Type 0) (p : ℕ) : Type 0 where
   pub all : (q : ℕ) → q ≤ p → own q → filled q
 
 -- one more than a gapless position, or 1
-abbrev pub IsReached : (ℕ → Type 0) → (ℕ → Type 0) → ℕ → Type 0
-IsReached own filled k = (k ≡ 1) ⊎ ((p : ℕ) × (k ≡ p + 1) × IsGapless own filled p)
+abbrev pub IsOwnReached : (ℕ → Type 0) → (ℕ → Type 0) → ℕ → Type 0
+IsOwnReached own filled k = (k ≡ 1) ⊎ ((p : ℕ) × (k ≡ p + 1) × IsGapless own filled p)
 
 -- Mark: one more than the greatest gapless position, or 1 where there is none.
 pub record IsMarkOf (own filled : ℕ → Type 0) (k : ℕ) : Type 0 where
-  pub reached : IsReached own filled k
+  pub reached : IsOwnReached own filled k
   pub greatest : (p : ℕ) → IsGapless own filled p → p < k

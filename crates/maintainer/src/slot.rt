@@ -5,7 +5,7 @@ ghost use Rattle.std.specs.List.{AllWithin};
 ghost use Rattle.std.specs.Option.{option_copied};
 ghost use Rattle.flstore_rounds.specs.Epochs.{last_epoch};
 ghost use Rattle.maintainer.specs.Maintainers.{AreRising, AreRisingPositions, IsOwnedBy, IsFilledBy, entry_after, value_at};
-ghost use Rattle.maintainer.specs.Marks.{IsMarkOf, IsReached};
+ghost use Rattle.maintainer.specs.Marks.{IsMarkOf, IsOwnReached};
 ghost use Rattle.cz_base.specs.declared.limits.TheConstants.{NUMBERS_END};
 
 use crate::positions::has_position;
@@ -86,7 +86,7 @@ pub(crate) fn mark_past<T>(
     requires gone { AreRisingPositions gone.now }
     requires small { (p : ℕ) → IsFilledBy slots.now gone.now p → p < NUMBERS_END }
     requires from { (1 ≤ from) × (from ≤ NUMBERS_END) }
-    requires reached { IsReached (IsOwnedBy epochs.now number) (IsFilledBy slots.now gone.now) from }
+    requires reached { IsOwnReached (IsOwnedBy epochs.now number) (IsFilledBy slots.now gone.now) from }
     ensures mark { IsMarkOf (IsOwnedBy epochs.now number) (IsFilledBy slots.now gone.now) result }
 {
     let mut mark = from;

@@ -7,7 +7,7 @@ use Rattle.std.proofs.lemmas.List.{length-take-le, take_all}
 use Rattle.std.specs.Int.{byte_at}
 use Rattle.byteorder.specs.Endian.{big_from, big_number, big_bytes}
 use Rattle.byteorder.specs.Numbers.{big_from-cons, big_from-take, big_from-lt, big_number-reads_back, length-bytes_high_first}
-use Rattle.record_codec.specs.Parts.{shared, Differ, Misses, IsWord, IsCode, IsWithin}
+use Rattle.record_codec.specs.Parts.{shared, Differ, Misses, IsWord, IsCode, IsBetween}
 use Rattle.record_codec.specs.Reading.{BeginsNumber}
 use Rattle.record_codec.proofs.Shared.{shared_le_left, shared_le_right, take_same, shared_of_take}
 
@@ -106,7 +106,7 @@ begins_none width low high bytes order fits =
     record { least = omega arith; greatest = omega arith }
 
 -- all bytes are those of a number of the range
-pub begins_all : (width low high : ℕ) (bytes : List ℕ) (k : ℕ) → width ≤ k → k ≤ width → BeginsNumber width low high bytes k → IsWithin low high (big_number width bytes)
+pub begins_all : (width low high : ℕ) (bytes : List ℕ) (k : ℕ) → width ≤ k → k ≤ width → BeginsNumber width low high bytes k → IsBetween low high (big_number width bytes)
 begins_all width low high bytes k above below h =
     let same : k ≡ width = omega arith in
     let none : 256 ^ (width - width) ≡ 1 = ap (λ (n : ℕ). 256 ^ n) {x = width - width} {y = 0} (omega arith) in
@@ -121,7 +121,7 @@ div_mono : (a b u : ℕ) → 0 < u → a ≤ b → a / u ≤ b / u
 div_mono a b u some le = le-div (a / u) b u some (let h = div-mul-le_self a u in omega arith)
 
 -- a number of the range that begins with the bytes begins as some number of the range does
-pub begins_of_number : (width low high k x : ℕ) (bytes : List ℕ) → k ≤ width → IsWithin low high x → high < 256 ^ width
+pub begins_of_number : (width low high k x : ℕ) (bytes : List ℕ) → k ≤ width → IsBetween low high x → high < 256 ^ width
     → k ≤ shared (big_bytes width x) bytes → BeginsNumber width low high bytes k
 begins_of_number width low high k x bytes h within fits far =
     let is : big_number k bytes ≡ x / 256 ^ (width - k) = number_of_shared width k x bytes h (omega (arith, within.greatest)) far in
@@ -131,7 +131,7 @@ begins_of_number width low high k x bytes h within fits far =
     }
 
 -- the number of the range that the bytes begin
-pub begun_number : (low high u v : ℕ) → 0 < u → low ≤ high → low / u ≤ v → v ≤ high / u → IsWithin low high (max low (v * u)) × (max low (v * u) / u ≡ v)
+pub begun_number : (low high u v : ℕ) → 0 < u → low ≤ high → low / u ≤ v → v ≤ high / u → IsBetween low high (max low (v * u)) × (max low (v * u) / u ≡ v)
 begun_number low high u v some order least greatest =
     let top : v * u ≤ high = (le-div_iff_mul-le {k = u} {x = v} {y = high} some).0 greatest in
     let whole : v * u / u ≡ v = mul-div_left v some in (
@@ -145,7 +145,7 @@ begun_number low high u v some order least greatest =
 
 number_most : (width low high : ℕ) (bytes : List ℕ) (n : ℕ) → n < width → high < 256 ^ width
     → (n < width → n < length bytes → BeginsNumber width low high bytes (n + 1) → ⊥)
-    → (w : List ℕ) → IsWord (IsWithin low high) (big_bytes width) w → shared w bytes ≤ n
+    → (w : List ℕ) → IsWord (IsBetween low high) (big_bytes width) w → shared w bytes ≤ n
 number_most width low high bytes n short fits last w word = elim (cases_lt n (shared w bytes)) [
   | inl far ↦
       let inside : shared w bytes ≤ length bytes = shared_le_right w bytes in
@@ -157,13 +157,13 @@ number_most width low high bytes n short fits last w word = elim (cases_lt n (sh
 -- how far bytes go on as a number of the range does
 pub number_misses : (width low high : ℕ) (bytes : List ℕ) (n : ℕ) → AreBytes bytes → low ≤ high → high < 256 ^ width → n < width → n ≤ length bytes
     → BeginsNumber width low high bytes n → (n < width → n < length bytes → BeginsNumber width low high bytes (n + 1) → ⊥)
-    → Misses (IsWord (IsWithin low high) (big_bytes width)) bytes n
+    → Misses (IsWord (IsBetween low high) (big_bytes width)) bytes n
 number_misses width low high bytes n are order fits short room begins last =
     let u : ℕ = 256 ^ (width - n) in
     let number = begun_number low high (256 ^ (width - n)) (big_number n bytes) (pow_above (width - n)) order begins.least begins.greatest in
     let x : ℕ = max low (big_number n bytes * 256 ^ (width - n)) in
     let far : n ≤ shared (big_bytes width x) bytes = shared_of_number width n x bytes (omega arith) (omega (arith, number.0.greatest)) are room (sym number.1) in
-    let most : (w : List ℕ) → IsWord (IsWithin low high) (big_bytes width) w → shared w bytes ≤ n = number_most width low high bytes n short fits last in
+    let most : (w : List ℕ) → IsWord (IsBetween low high) (big_bytes width) w → shared w bytes ≤ n = number_most width low high bytes n short fits last in
     record {
       word = big_bytes width x;
       is_word = record { value = x; allowed = number.0; spelled = refl };
@@ -172,7 +172,7 @@ number_misses width low high bytes n are order fits short room begins last =
       none = λ w word. let e : length w ≡ width = ap length word.spelled ∙ length-bytes_high_first width word.value in omega (arith, most w word, e);
     }
 
-number_apart : (width low high : ℕ) → high < 256 ^ width → (x y : ℕ) → IsWithin low high x → IsWithin low high y
+number_apart : (width low high : ℕ) → high < 256 ^ width → (x y : ℕ) → IsBetween low high x → IsBetween low high y
     → (x ≡ y) ⊎ Differ (big_bytes width x) (big_bytes width y)
 number_apart width low high fits x y in_x in_y =
     let size_x : length (big_bytes width x) ≡ width = length-bytes_high_first width x in
@@ -189,7 +189,7 @@ number_apart width low high fits x y in_x in_y =
     ]
 
 -- numbers of one width that are not equal differ
-pub number_code : (width low high : ℕ) → high < 256 ^ width → IsCode (IsWithin low high) (big_bytes width)
+pub number_code : (width low high : ℕ) → high < 256 ^ width → IsCode (IsBetween low high) (big_bytes width)
 number_code width low high fits = record { apart = number_apart width low high fits }
 
 -- a number that was read is spelled by what it was read from
@@ -219,11 +219,14 @@ tested_low width low high known bytes n is above h =
     let lows : low / 2 ^ (8 * (width - known)) ≡ low / 256 ^ (width - known) = ap (λ (u : ℕ). low / u) e in
     omega (arith, h.least)
 
-pub begins_as : (width low high : ℕ) (bytes : List ℕ) (k n : ℕ) → width ≤ k → k ≤ width → BeginsNumber width low high bytes k → n ≡ big_number width bytes
-    → IsWithin low high n
-begins_as width low high bytes k n above below h is =
-    let all = begins_all width low high bytes k above below h in record { least = omega (arith, all.least); greatest = omega (arith, all.greatest) }
-
 pub spelled_as : (width : ℕ) (bytes : List ℕ) (n : ℕ) → AreBytes bytes → width ≤ length bytes → n ≡ big_number width bytes → bytes ≡ big_bytes width n ++ drop width bytes
 spelled_as width bytes n are room is =
     spelled_number width bytes are room ∙ ap (λ (m : ℕ). big_bytes width m ++ drop width bytes) (sym is)
+
+-- bytes that are no number of the range begin one with fewer bytes
+pub begins_fewer : (width low high : ℕ) (bytes : List ℕ) (n : ℕ) → n ≤ width → n ≤ length bytes → (width ≤ length bytes → ¬ IsBetween low high (big_number width bytes))
+    → BeginsNumber width low high bytes n → n < width
+begins_fewer width low high bytes n within room none begins = elim (cases_lt n width) [
+  | inl fewer ↦ fewer
+  | inr all ↦ absurd (none (omega arith) (begins_all width low high bytes n all within begins))
+]

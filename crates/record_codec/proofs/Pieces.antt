@@ -5,6 +5,7 @@ use Rattle.std.proofs.lemmas.List.Elements.{All-push}
 use Rattle.std.specs.List.{flat_map}
 use Rattle.byteorder.specs.Endian.{big_bytes}
 use Rattle.causal_deps.specs.declared.record.Record.{Record}
+use Rattle.record_codec.specs.declared.form.Form.{Form}
 use Rattle.record_codec.specs.Wire.{record_bytes, records_bytes, FitsRecord}
 
 pub pieces_4 : (w u v x y a b c d : List ℕ) → u ≡ w ++ a → v ≡ u ++ b → x ≡ v ++ c → y ≡ x ++ d → y ≡ w ++ (a ++ (b ++ (c ++ d)))
@@ -31,12 +32,13 @@ head_written w u v x y z t dcs dcs' host host' toid session index kind kind' is_
     (e1 ∙ ap (λ (n : ℕ). w ++ big_bytes 1 n) is_dcs) (e2 ∙ ap (λ (n : ℕ). u ++ big_bytes 1 n) is_host) e3 e4 e5 (e6 ∙ ap (λ (n : ℕ). z ++ big_bytes 1 n) is_kind)
 
 -- the five parts of a message
-pub message_written : (w u v x y z : List ℕ) (dcs dcs' host host' : ℕ) (table : List ℕ) (records : List Record) → dcs ≡ dcs' → host ≡ host'
-    → u ≡ w ++ big_bytes 1 1 → v ≡ u ++ big_bytes 1 host → x ≡ v ++ big_bytes 1 dcs → y ≡ x ++ table → z ≡ y ++ records_bytes dcs records
-    → z ≡ w ++ (big_bytes 1 1 ++ (big_bytes 1 host' ++ (big_bytes 1 dcs' ++ (table ++ records_bytes dcs' records))))
-message_written w u v x y z dcs dcs' host host' table records is_dcs is_host e1 e2 e3 e4 e5 =
-    pieces_5 w u v x y z (big_bytes 1 1) (big_bytes 1 host') (big_bytes 1 dcs') table (records_bytes dcs' records)
-    e1 (e2 ∙ ap (λ (n : ℕ). u ++ big_bytes 1 n) is_host) (e3 ∙ ap (λ (n : ℕ). v ++ big_bytes 1 n) is_dcs) e4 (e5 ∙ ap (λ (n : ℕ). y ++ records_bytes n records) is_dcs)
+pub message_written : (form : Form) (w u v x y z : List ℕ) (kind kind' dcs dcs' host host' : ℕ) (table : List ℕ) (records : List Record) → kind ≡ kind' → dcs ≡ dcs' → host ≡ host'
+    → u ≡ w ++ big_bytes 1 kind → v ≡ u ++ big_bytes 1 host → x ≡ v ++ big_bytes 1 dcs → y ≡ x ++ table → z ≡ y ++ records_bytes form dcs records
+    → z ≡ w ++ (big_bytes 1 kind' ++ (big_bytes 1 host' ++ (big_bytes 1 dcs' ++ (table ++ records_bytes form dcs' records))))
+message_written form w u v x y z kind kind' dcs dcs' host host' table records is_kind is_dcs is_host e1 e2 e3 e4 e5 =
+    pieces_5 w u v x y z (big_bytes 1 kind') (big_bytes 1 host') (big_bytes 1 dcs') table (records_bytes form dcs' records)
+    (e1 ∙ ap (λ (n : ℕ). w ++ big_bytes 1 n) is_kind) (e2 ∙ ap (λ (n : ℕ). u ++ big_bytes 1 n) is_host) (e3 ∙ ap (λ (n : ℕ). v ++ big_bytes 1 n) is_dcs) e4
+    (e5 ∙ ap (λ (n : ℕ). y ++ records_bytes form n records) is_dcs)
 
 -- one more value of a list
 pub written_more : {X : Type 0} (s : X → List ℕ) (xs : List X) (i : ℕ) (x : X) (w u v : List ℕ) → i < length xs → x ≡ get_or xs i x → u ≡ w ++ flat_map s (take i xs) → v ≡ u ++ s x
@@ -56,10 +58,10 @@ all_more {X} P xs i x inside is before now =
     subst Q (ap (λ (y : X). take i xs ++ y ∷ []) is ∙ sym (take_more xs i x inside)) (All-push P (take i xs) x before now)
 
 -- one more record
-pub records_written_more : (dcs : ℕ) (xs ys : List Record) (i : ℕ) (x : Record) (w u v : List ℕ) → xs ≡ ys → All (λ r. FitsRecord dcs r) ys → i < length xs → x ≡ get_or xs i x
-    → u ≡ w ++ flat_map (record_bytes dcs) (take i xs) → v ≡ u ++ record_bytes (length x.dep) x → v ≡ w ++ flat_map (record_bytes dcs) (take (i + 1) xs)
-records_written_more dcs xs ys i x w u v same fits inside is before now =
+pub records_written_more : (form : Form) (dcs : ℕ) (xs ys : List Record) (i : ℕ) (x : Record) (w u v : List ℕ) → xs ≡ ys → All (λ r. FitsRecord dcs r) ys → i < length xs → x ≡ get_or xs i x
+    → u ≡ w ++ flat_map (record_bytes form dcs) (take i xs) → v ≡ u ++ record_bytes form (length x.dep) x → v ≡ w ++ flat_map (record_bytes form dcs) (take (i + 1) xs)
+records_written_more form dcs xs ys i x w u v same fits inside is before now =
     let P : List Record → Type 0 = λ zs. All (λ r. FitsRecord dcs r) zs in
     let all : All (λ r. FitsRecord dcs r) xs = subst P (sym same) fits in
     let e : length x.dep ≡ dcs = ap (λ (r : Record). length r.dep) is ∙ (all i x inside).entries in
-    written_more (record_bytes dcs) xs i x w u v inside is before (now ∙ ap (λ (n : ℕ). u ++ record_bytes n x) e)
+    written_more (record_bytes form dcs) xs i x w u v inside is before (now ∙ ap (λ (n : ℕ). u ++ record_bytes form n x) e)

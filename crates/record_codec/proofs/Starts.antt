@@ -5,8 +5,8 @@ use Rattle.std.proofs.lemmas.List.{append-nil, length-append, length-take-le, ta
 use Rattle.record_codec.specs.declared.fault.DecodeFault.{DecodeFault}
 use Rattle.record_codec.specs.declared.fault.DecodeFault.TheVariants.{Malformed, NoMemory}
 use Rattle.record_codec.specs.Parts.{shared, Misses, IsWord, IsCode}
-use Rattle.record_codec.specs.Reading.{Place, Fails, Took}
-use Rattle.record_codec.specs.Starts.{IsBadAt, IsRefused}
+use Rattle.record_codec.specs.Reading.{ReaderState, FailsAt, ReadPast}
+use Rattle.record_codec.specs.Starts.{IsBadAt, IsRefusedBytes}
 use Rattle.record_codec.proofs.Shared.{shared_le_right, shared-front, shared_of_take, take_same}
 
 shared_self : (xs : List ℕ) → shared xs xs ≡ length xs
@@ -72,21 +72,21 @@ bad_same bytes at there back h = record {
 }
 
 -- what a reader of all the bytes missed
-pub refused_of_miss : (W : List ℕ → Type 0) (bytes : List ℕ) (f : DecodeFault) → Fails W (record { left = bytes; at = 0 }) f → IsRefused W bytes f
+pub refused_of_miss : (W : List ℕ → Type 0) (bytes : List ℕ) (f : DecodeFault) → FailsAt W (record { left = bytes; at = 0 }) f → IsRefusedBytes W bytes f
 refused_of_miss W bytes (Malformed at) h =
     let P : ℕ → Type 0 = λ n. Misses W bytes n in
     bad_of_miss W bytes at (subst P {x = h.off} {y = at} (omega (arith, h.is)) h.misses)
 refused_of_miss W bytes NoMemory h = tt
 
-pub refused_same : {W V : List ℕ → Type 0} (bytes : List ℕ) → ((w : List ℕ) → W w → V w) → ((w : List ℕ) → V w → W w) → (f : DecodeFault) → IsRefused W bytes f → IsRefused V bytes f
+pub refused_same : {W V : List ℕ → Type 0} (bytes : List ℕ) → ((w : List ℕ) → W w → V w) → ((w : List ℕ) → V w → W w) → (f : DecodeFault) → IsRefusedBytes W bytes f → IsRefusedBytes V bytes f
 refused_same bytes there back (Malformed at) h = bad_same bytes at there back h
 refused_same bytes there back NoMemory h = tt
 
 -- bytes that are left after a word
-pub refused_of_more : {X : Type 0} (A : X → Type 0) (s : X → List ℕ) (x : X) (bytes : List ℕ) (p : Place) → IsCode A s → A x → Took (record { left = bytes; at = 0 }) p (s x)
-    → (f : DecodeFault) → (f ≡ Malformed p.at) × (p.left ≢ []) → IsRefused (IsWord A s) bytes f
+pub refused_of_more : {X : Type 0} (A : X → Type 0) (s : X → List ℕ) (x : X) (bytes : List ℕ) (p : ReaderState) → IsCode A s → A x → ReadPast (record { left = bytes; at = 0 }) p (s x)
+    → (f : DecodeFault) → (f ≡ Malformed p.at) × (p.left ≢ []) → IsRefusedBytes (IsWord A s) bytes f
 refused_of_more A s x bytes p code in_x took f h =
-    let P : DecodeFault → Type 0 = λ g. IsRefused (IsWord A s) bytes g in
+    let P : DecodeFault → Type 0 = λ g. IsRefusedBytes (IsWord A s) bytes g in
     let Q : ℕ → Type 0 = λ n. IsBadAt (IsWord A s) bytes n in
     subst P (sym h.0) (subst Q {x = length (s x)} {y = p.at} (omega (arith, took.at)) (bad_of_more A s x bytes p.left code in_x took.bytes h.1))
 
@@ -96,7 +96,7 @@ IsWord_of A s bytes x = A x × (bytes ≡ s x)
 
 -- what the bytes spell is what is read
 pub only_spelled : {X : Type 0} (W : List ℕ → Type 0) (A : X → Type 0) (s : X → List ℕ) (bytes : List ℕ) (r : Result X DecodeFault) → IsCode A s
-    → ((x : X) → A x → W (s x)) → IfOk r (IsWord_of A s bytes) → IfErr r (IsRefused W bytes) → (x : X) → A x → bytes ≡ s x → MatchResult r (λ y. y ≡ x) (λ f. f ≡ NoMemory)
+    → ((x : X) → A x → W (s x)) → IfOk r (IsWord_of A s bytes) → IfErr r (IsRefusedBytes W bytes) → (x : X) → A x → bytes ≡ s x → MatchResult r (λ y. y ≡ x) (λ f. f ≡ NoMemory)
 only_spelled W A s bytes (Ok y) code make ok err x in_x is = elim (code.apart y x ok.0 in_x) [
   | inl same ↦ same
   | inr differ ↦

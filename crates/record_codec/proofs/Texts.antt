@@ -9,7 +9,7 @@ use Rattle.cz_base.specs.Text.{first_bad}
 use Rattle.record_codec.specs.Parts.{shared, Differ, Misses, IsWord, IsCode, IsText, as_it_is}
 use Rattle.record_codec.specs.declared.fault.DecodeFault.{DecodeFault}
 use Rattle.record_codec.specs.declared.fault.DecodeFault.TheVariants.{Malformed}
-use Rattle.record_codec.specs.Reading.{Place, Fails}
+use Rattle.record_codec.specs.Reading.{ReaderState, FailsAt}
 use Rattle.record_codec.proofs.Shared.{shared_le_right, take_same, shared_of_take}
 
 -- every byte passes, so there is no first bad one
@@ -117,21 +117,21 @@ text_code good n = record { apart = λ x y in_x in_y. lists_apart x y (in_x.size
 
 -- the same of a reader
 
-pub fails_bad : (good : ℕ → Bool) (n k d : ℕ) (p : Place) (here : List ℕ) (f : DecodeFault) → good d ≡ true → here ≡ take n p.left → first_bad good here ≡ Some k
-    → f ≡ Malformed (p.at + k) → Fails (IsWord (IsText good n) as_it_is) p f
+pub fails_bad : (good : ℕ → Bool) (n k d : ℕ) (p : ReaderState) (here : List ℕ) (f : DecodeFault) → good d ≡ true → here ≡ take n p.left → first_bad good here ≡ Some k
+    → f ≡ Malformed (p.at + k) → FailsAt (IsWord (IsText good n) as_it_is) p f
 fails_bad good n k d p here f is_good is bad e =
-    let P : DecodeFault → Type 0 = λ g. Fails (IsWord (IsText good n) as_it_is) p g in
+    let P : DecodeFault → Type 0 = λ g. FailsAt (IsWord (IsText good n) as_it_is) p g in
     subst P (sym e) (record { off = k; misses = text_bad good n k d p.left here is_good is bad; is = refl })
 
-pub fails_short : (good : ℕ → Bool) (n d : ℕ) (p : Place) (here : List ℕ) (f : DecodeFault) → good d ≡ true → here ≡ take n p.left → length here < n → first_bad good here ≡ None
-    → f ≡ Malformed (p.at + length here) → Fails (IsWord (IsText good n) as_it_is) p f
+pub fails_short : (good : ℕ → Bool) (n d : ℕ) (p : ReaderState) (here : List ℕ) (f : DecodeFault) → good d ≡ true → here ≡ take n p.left → length here < n → first_bad good here ≡ None
+    → f ≡ Malformed (p.at + length here) → FailsAt (IsWord (IsText good n) as_it_is) p f
 fails_short good n d p here f is_good is short none e =
-    let P : DecodeFault → Type 0 = λ g. Fails (IsWord (IsText good n) as_it_is) p g in
+    let P : DecodeFault → Type 0 = λ g. FailsAt (IsWord (IsText good n) as_it_is) p g in
     subst P (sym e) (record { off = length here; misses = text_short good n d p.left here is_good is short none; is = refl })
 
 -- no byte is left
-pub fails_empty : (good : ℕ → Bool) (n most d : ℕ) (p : Place) (here : List ℕ) (f : DecodeFault) → good d ≡ true → 1 ≤ n → n ≤ most → here ≡ take n p.left
-    → (length here ≡ 0) ⊎ (most < length here) → f ≡ Malformed (p.at + 0) → Fails (IsWord (IsText good n) as_it_is) p f
+pub fails_empty : (good : ℕ → Bool) (n most d : ℕ) (p : ReaderState) (here : List ℕ) (f : DecodeFault) → good d ≡ true → 1 ≤ n → n ≤ most → here ≡ take n p.left
+    → (length here ≡ 0) ⊎ (most < length here) → f ≡ Malformed (p.at + 0) → FailsAt (IsWord (IsText good n) as_it_is) p f
 fails_empty good n most d p here f is_good some few is fault e =
     let size = length-take n p.left in
     let size_here : length here ≡ length (take n p.left) = ap length is in

@@ -37,11 +37,11 @@ pub record Both {X Y : Type 0} (First : X → Type 0) (Second : X → Y → Type
   pub first : First values.0
   pub second : Second values.0 values.1
 
-abbrev pub joined : {X Y : Type 0} → (X → List ℕ) → (Y → List ℕ) → X × Y → List ℕ
-joined first second values = first values.0 ++ second values.1
+abbrev pub behind_one_another : {X Y : Type 0} → (X → List ℕ) → (X → Y → List ℕ) → X × Y → List ℕ
+behind_one_another first second values = first values.0 ++ second values.0 values.1
 
 -- a number of a range
-pub record IsWithin (low high n : ℕ) : Type 0 where
+pub record IsBetween (low high n : ℕ) : Type 0 where
   pub least : low ≤ n
   pub greatest : n ≤ high
 
@@ -61,7 +61,7 @@ AreEach Allowed i (suc n) (x ∷ xs) = Allowed i x × AreEach Allowed (suc i) n 
 
 -- a value whose size is in a range, spelled behind its size
 pub record IsSized {Y : Type 0} (low high : ℕ) (size : Y → ℕ) (Items : ℕ → Y → Type 0) (y : Y) : Type 0 where
-  pub within : IsWithin low high (size y)
+  pub within : IsBetween low high (size y)
   pub items : Items (size y) y
 
 abbrev pub sized : {Y : Type 0} → ℕ → (Y → ℕ) → (Y → List ℕ) → Y → List ℕ

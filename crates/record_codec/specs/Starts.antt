@@ -15,6 +15,6 @@ pub record IsBadAt (IsSpelling : List ℕ → Type 0) (bytes : List ℕ) (at : �
   pub longest : (n : ℕ) → at < n → n ≤ length bytes → ¬ Begins IsSpelling (take n bytes)
 
 -- why bytes are refused; want of memory may come at any of them
-abbrev pub IsRefused : (List ℕ → Type 0) → List ℕ → DecodeFault → Type 0
-IsRefused IsSpelling bytes (Malformed at) = IsBadAt IsSpelling bytes at
-IsRefused IsSpelling bytes NoMemory = Unit {0}
+abbrev pub IsRefusedBytes : (List ℕ → Type 0) → List ℕ → DecodeFault → Type 0
+IsRefusedBytes IsSpelling bytes (Malformed at) = IsBadAt IsSpelling bytes at
+IsRefusedBytes IsSpelling bytes NoMemory = Unit {0}

@@ -1,15 +1,18 @@
 //! A writer of bytes: each part of a spelling.
 
-ghost use Rattle.std.specs.Prelude.{◌≡◌, ◌++◌, ◌<◌, ◌≤◌, ◌^◌, [], All, length, OnOk};
+ghost use Rattle.std.specs.Prelude.{◌≡◌, ◌++◌, ◌<◌, ◌≤◌, ◌^◌, ◌==◌, ◌||◌, not, [], All, length, IfOk, OnOk};
 ghost use Rattle.std.specs.List.{flat_map};
 ghost use Rattle.byteorder.specs.Endian.{big_bytes};
+ghost use Rattle.cz_base.specs.declared.limits.TheConstants.{DATACENTRES};
 ghost use Rattle.cz_base.specs.Text.{IsName, IsBody};
-ghost use Rattle.record_codec.specs.Wire.{body_bytes, counts_bytes, name_bytes, names_bytes, table_bytes};
+ghost use Rattle.record_codec.specs.Fields.{told_bytes};
+ghost use Rattle.record_codec.specs.Wire.{body_bytes, counts_bytes, dep_bytes, entry_bytes, name_bytes, names_bytes, sparse_bytes, table_bytes, told_entries};
 
+use crate::Form;
 use crate::reader::datacentre;
 use byteorder::{BigEndian, ByteOrder};
 use causal_deps::{Counts, Table};
-use cz_base::{Body, Name, NoMemory, Seq};
+use cz_base::{Body, DcId, Name, NoMemory, Seq};
 use std::alloc::Global;
 use std::marker::Model;
 
@@ -28,13 +31,13 @@ impl Model for Writer {
 }
 
 impl Writer {
-    /// No bytes yet.
-    pub fn new(alloc: Global) -> Self
-        ensures { result ≡ [] }
+    /// No bytes yet, and room for so many.
+    pub fn with_room(alloc: Global, room: usize) -> Result<Self, NoMemory>
+        ensures { IfOk result (λ writer. writer ≡ []) }
     {
-        Writer {
-            bytes: Vec::new(alloc),
-        }
+        Ok(Writer {
+            bytes: Vec::with_capacity(alloc, room)?,
+        })
     }
 
     /// The bytes that were written.
@@ -104,6 +107,44 @@ impl Writer {
         self.text(text)
     }
 
+    /// Writes the dependencies of a record of the host.
+    pub fn dep(&mut self, form: Form, host: DcId, dep: &Counts) -> Result<(), NoMemory>
+        ensures { OnOk result (self.new ≡ self.old ++ dep_bytes form host dep.now) }
+    {
+        match form {
+            Form::Dense => self.counts(dep),
+            Form::Sparse => self.told(host.number(), dep),
+        }
+    }
+
+    // Writes the entries that are told behind their number.
+    fn told(&mut self, own: u32, dep: &Counts) -> Result<(), NoMemory>
+        ensures { OnOk result (self.new ≡ self.old ++ sparse_bytes own dep.now) }
+    {
+        self.number(1, told_count(own, dep) as u64)?;
+        self.each_told(own, dep)
+    }
+
+    fn each_told(&mut self, own: u32, dep: &Counts) -> Result<(), NoMemory>
+        ensures { OnOk result (self.new ≡ self.old ++ told_bytes own dep.now) }
+    {
+        for at in 0..dep.dcs() {
+            let count = dep.get(datacentre(at));
+            if is_told(own, at, count) {
+                self.entry(at, count)?;
+            }
+        }
+        Ok(())
+    }
+
+    fn entry(&mut self, host: u32, count: u64) -> Result<(), NoMemory>
+        requires { host < 256 }
+        ensures { OnOk result (self.new ≡ self.old ++ entry_bytes (record { host = host; count = count })) }
+    {
+        self.number(1, host as u64)?;
+        self.number(8, count)
+    }
+
     /// Writes each entry.
     pub fn counts(&mut self, counts: &Counts) -> Result<(), NoMemory>
         ensures { OnOk result (self.new ≡ self.old ++ counts_bytes counts.now) }
@@ -123,4 +164,25 @@ impl Writer {
         }
         Ok(())
     }
+}
+
+// Whether the sparse form tells the entry of a datacentre.
+fn is_told(own: u32, at: u32, count: u64) -> bool
+    ensures { result ≡ not ((at == own) || (count == 0)) }
+{
+    at != own && count != 0
+}
+
+/// How many entries the sparse form tells.
+pub fn told_count(own: u32, dep: &Counts) -> u32
+    ensures count { result ≡ length (told_entries own 0 dep.now) }
+    ensures few { result ≤ DATACENTRES }
+{
+    let mut told = 0;
+    for at in 0..dep.dcs() {
+        if is_told(own, at, dep.get(datacentre(at))) {
+            told += 1;
+        }
+    }
+    told
 }

@@ -3,7 +3,7 @@ use Rattle.std.specs.Prelude.{ℕ, Bool, true, false, if◌then◌else◌, List,
 use Rattle.std.specs.List.{flat_map}
 use Rattle.std.specs.Fmt.{decimal}
 use Rattle.abstract_log.specs.declared.script.Step.{Step}
-use Rattle.abstract_log.specs.declared.script.Step.TheVariants.{Client, Flush, Pass, Stamp, Token, Place, Gossip, Post, Learn, Send, Deliver, Lose, Copy, Floor, Collect, Announce, Mark, AddMaintainer, AddBatcher, AddQueue, AddSender, AddReceiver}
+use Rattle.abstract_log.specs.declared.script.Step.TheVariants.{Client, Flush, Pass, Stamp, Token, Place, Gossip, Post, Learn, Send, Deliver, Lose, Copy, Floor, Collect, Announce, Mark, AddMaintainer, AddBatcher, AddQueue, AddSender, AddReceiver, Upgrade}
 use Rattle.abstract_log.specs.declared.script.ItemName.{ItemName}
 use Rattle.abstract_log.specs.declared.script.ItemName.TheVariants.{Draft, External}
 use Rattle.abstract_log.specs.declared.script.Way.{Way}
@@ -11,7 +11,7 @@ use Rattle.abstract_log.specs.declared.script.Way.TheVariants.{Passed, Held, Dro
 use Rattle.abstract_log.specs.declared.script.FlushItem.{FlushItem}
 use Rattle.abstract_log.specs.declared.script.StageLine.{StageLine}
 use Rattle.abstract_log.specs.declared.script.Outcome.{Outcome}
-use Rattle.abstract_log.specs.declared.script.Outcome.TheVariants.{Absent, Unacknowledged, Finished, Submitted, Replied, Waiting, Below, Behind, Key, Empty, Flushed, PassedOn, NoToken, Stamped, At, Placed, Head, Covered, Learnt, Sent, NoRecords, Received, Lost, Copied, FloorAt, Nothing, Collected, Announced, Busy, LateStart, Idle, AcceptedBy, LateAt, Active, LateMark, EpochAdded, Member}
+use Rattle.abstract_log.specs.declared.script.Outcome.TheVariants.{Absent, Unacknowledged, Finished, Submitted, Replied, Waiting, Below, Behind, Key, Empty, Flushed, PassedOn, NoToken, Stamped, At, Placed, Head, Covered, Learnt, Sent, NoRecords, Received, Lost, Copied, FloorAt, Nothing, Collected, Announced, Busy, LateStart, Idle, AcceptedBy, LateAt, Active, LateMark, EpochAdded, Member, Form2}
 use Rattle.report_text.specs.Values.{letter, name_word, draft_word, counts_word, numbers_words, names_words, places_words}
 
 -- the first word of a step line
@@ -38,6 +38,7 @@ step_keyword (AddBatcher d) = codes "addbatcher"
 step_keyword (AddQueue d) = codes "addqueue"
 step_keyword (AddSender d) = codes "addsender"
 step_keyword (AddReceiver d) = codes "addreceiver"
+step_keyword (Upgrade d) = codes "upgrade"
 
 -- the words after it: datacentres by letter, members and packets by number
 abbrev pub step_arguments : Step → List (List ℕ)
@@ -63,6 +64,7 @@ step_arguments (AddBatcher d) = letter d ∷ []
 step_arguments (AddQueue d) = letter d ∷ []
 step_arguments (AddSender d) = letter d ∷ []
 step_arguments (AddReceiver d) = letter d ∷ []
+step_arguments (Upgrade d) = letter d ∷ []
 
 -- what an item is called on its way
 abbrev pub item_word : ItemName → List ℕ
@@ -129,6 +131,7 @@ outcome_words (Active filters) = labelled (codes "active") filters
 outcome_words (LateMark bound) = labelled (codes "late") bound
 outcome_words (EpochAdded start members) = codes "epoch" ∷ decimal start ∷ decimal members ∷ []
 outcome_words (Member number) = labelled (codes "member") number
+outcome_words Form2 = labelled (codes "form") 2
 
 -- a turn: its step line, an arrow, and what it answered
 abbrev pub stage_words : StageLine → List (List ℕ)

@@ -12,7 +12,7 @@
 //! run is not held twice. The summary counts what is gone by the events, which is the same. JSON has its members by the
 //! order of their names and no space, so that a report has one text.
 //!
-//! **Tests.** None here; `world_rows` and the program's crate compare whole reports.
+//! **Tests.** None here; `test_world` and `test_program` compare whole reports.
 #![tactic(auto)]
 
 mod events;

@@ -75,6 +75,7 @@ fn keyword(step: &Step) -> &'static [u8]
         Step::AddQueue { .. } => b"addqueue",
         Step::AddSender { .. } => b"addsender",
         Step::AddReceiver { .. } => b"addreceiver",
+        Step::Upgrade { .. } => b"upgrade",
     }
 }
 
@@ -105,6 +106,7 @@ fn put_arguments(text: &mut Text, step: &Step) -> Result<(), NoMemory>
         Step::AddQueue { d } => letter_word(text, *d),
         Step::AddSender { d } => letter_word(text, *d),
         Step::AddReceiver { d } => letter_word(text, *d),
+        Step::Upgrade { d } => letter_word(text, *d),
     }
 }
 
@@ -198,6 +200,7 @@ fn put_outcome(text: &mut Text, outcome: &Outcome) -> Result<(), NoMemory>
         Outcome::LateMark { bound } => text.labelled(b"late", *bound),
         Outcome::EpochAdded { start, members } => put_epoch(text, *start, *members),
         Outcome::Member { number } => text.labelled(b"member", u64::from(*number)),
+        Outcome::Form2 => text.labelled(b"form", 2),
     }
 }
 

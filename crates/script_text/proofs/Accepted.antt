@@ -18,7 +18,7 @@ use Rattle.script_text.specs.declared.fault.ScriptFault.{ScriptFault}
 use Rattle.script_text.specs.declared.keyword.Keyword.TheVariants.{Steps, End}
 use Rattle.script_text.specs.declared.section.Section.{Section}
 use Rattle.script_text.specs.declared.progress.Progress.{Progress}
-use Rattle.script_text.specs.declared.progress.Stages.{Stages as StagesOf}
+use Rattle.script_text.specs.declared.progress.SizesLine.{SizesLine}
 use Rattle.script_text.specs.Words.{words, is_line_byte, is_empty_word}
 use Rattle.script_text.specs.Reading.{◌>>=◌}
 use Rattle.script_text.specs.Keywords.{is_stages, is_sessions, is_ended}
@@ -48,7 +48,7 @@ leads_append : (said mid after : Progress) (front back : List (List (List ℕ)))
 leads_append said mid after [] back first second = subst (λ (p : Progress). Leads p back after) (sym first) second
 leads_append said mid after (line ∷ more) back first second = (first.0, (first.1.0, leads_append first.0 mid after more back first.1.1 second))
 
-commands_lead : (dcs round : ℕ) (stages : List StagesOf) (front : List SessionPlan) (home : ℕ) (done : List Command) (count : ℕ) (left all : List Command) (total : ℕ)
+commands_lead : (dcs round : ℕ) (stages : List SizesLine) (front : List SessionPlan) (home : ℕ) (done : List Command) (count : ℕ) (left all : List Command) (total : ℕ)
     → All FitsCommand left → total ≤ COMMANDS → done ++ left ≡ all → count + length left ≡ total
     → Leads (said_at section.Sessions dcs round stages (with_plan front home done) count) (map command_words left) (said_at section.Sessions dcs round stages (with_plan front home all) total)
 commands_lead dcs round stages front home done count [] all total fits few same counted =
@@ -69,10 +69,10 @@ abbrev closing : List Step → List (List (List ℕ))
 closing steps = steps_words ∷ (map turn_words steps ++ end_words ∷ [])
 
 -- what has been said at the end
-abbrev pub ended_at : ℕ → ℕ → List StagesOf → List SessionPlan → ℕ → List Step → Progress
+abbrev pub ended_at : ℕ → ℕ → List SizesLine → List SessionPlan → ℕ → List Step → Progress
 ended_at dcs round stages plans count steps = record { section = section.Ended; dcs = dcs; round = round; stages = stages; sessions = plans; commands = count; steps = steps }
 
-steps_takes : (here : Section) (dcs round : ℕ) (stages : List StagesOf) (plans : List SessionPlan) (count : ℕ) → (is_stages here || is_sessions here) ≡ true
+steps_takes : (here : Section) (dcs round : ℕ) (stages : List SizesLine) (plans : List SessionPlan) (count : ℕ) → (is_stages here || is_sessions here) ≡ true
     → Takes (said_at here dcs round stages plans count) steps_words (stepping dcs round stages plans count [])
 steps_takes here dcs round stages plans count place = record {
   full = refl;
@@ -80,7 +80,7 @@ steps_takes here dcs round stages plans count place = record {
   means = word_reads (said_at here dcs round stages plans count) (codes "steps") [] Steps steps_word place refl;
 }
 
-end_takes : (dcs round : ℕ) (stages : List StagesOf) (plans : List SessionPlan) (count : ℕ) (steps : List Step)
+end_takes : (dcs round : ℕ) (stages : List SizesLine) (plans : List SessionPlan) (count : ℕ) (steps : List Step)
     → Takes (stepping dcs round stages plans count steps) end_words (ended_at dcs round stages plans count steps)
 end_takes dcs round stages plans count steps = record {
   full = refl;
@@ -88,7 +88,7 @@ end_takes dcs round stages plans count steps = record {
   means = word_reads (stepping dcs round stages plans count steps) (codes "end") [] End end_word refl refl;
 }
 
-steps_lead : (dcs round : ℕ) (stages : List StagesOf) (plans : List SessionPlan) (count : ℕ) (done left all : List Step) → dcs ≤ DATACENTRES → length plans ≤ SESSIONS
+steps_lead : (dcs round : ℕ) (stages : List SizesLine) (plans : List SessionPlan) (count : ℕ) (done left all : List Step) → dcs ≤ DATACENTRES → length plans ≤ SESSIONS
     → All (FitsStep (record { dcs = dcs; sessions = plans })) left → AreWithinAt dcs stages all → length done + length left ≤ STEPS → done ++ left ≡ all
     → Leads (stepping dcs round stages plans count done) (map turn_words left ++ end_words ∷ []) (ended_at dcs round stages plans count all)
 steps_lead dcs round stages plans count done [] all few room fits members short same = (
@@ -108,7 +108,7 @@ steps_lead dcs round stages plans count done (t ∷ more) all few room fits memb
       ),
     )
 
-plans_lead : (here : Section) (dcs round : ℕ) (stages : List StagesOf) (front : List SessionPlan) (count : ℕ) (left all : List SessionPlan) (total : ℕ) (steps : List Step)
+plans_lead : (here : Section) (dcs round : ℕ) (stages : List SizesLine) (front : List SessionPlan) (count : ℕ) (left all : List SessionPlan) (total : ℕ) (steps : List Step)
     → (is_stages here || is_sessions here) ≡ true → dcs ≤ DATACENTRES → All (FitsPlan dcs) left → length front + length left ≤ SESSIONS → total ≤ COMMANDS
     → front ++ left ≡ all → count + commands_of left ≡ total
     → All (FitsStep (record { dcs = dcs; sessions = all })) steps → AreWithinAt dcs stages steps → length steps ≤ STEPS
@@ -141,10 +141,10 @@ plans_lead here dcs round stages front count (plan ∷ more) all total steps pla
     )
 
 -- no line so far gave the sizes of that datacentre
-abbrev IsNew : List StagesOf → StagesOf → Type 0
+abbrev IsNew : List SizesLine → SizesLine → Type 0
 IsNew front given = is_given front given.dc ≡ false
 
-still_new : (front : List StagesOf) (given : StagesOf) (more : List StagesOf) → All (IsNew front) more → is_given more given.dc ≡ false → All (IsNew (front ++ given ∷ [])) more
+still_new : (front : List SizesLine) (given : SizesLine) (more : List SizesLine) → All (IsNew front) more → is_given more given.dc ≡ false → All (IsNew (front ++ given ∷ [])) more
 still_new front given [] new other = All-nil (IsNew (front ++ given ∷ []))
 still_new front given (next ∷ later) new other =
     let both = or_parts (nat_eq next.dc given.dc) (is_given later given.dc) other in
@@ -152,10 +152,10 @@ still_new front given (next ∷ later) new other =
     (is_given-push front given next.dc (All-head (IsNew front) next later new) (eq-sym next.dc given.dc both.0))
     (still_new front given later (All-tail (IsNew front) next later new) both.1)
 
-stages_lead : (dcs round : ℕ) (front left all : List StagesOf) → dcs ≤ DATACENTRES → All (FitsStages dcs) left → AreGivenOnce left → All (IsNew front) left → front ++ left ≡ all
+stages_lead : (dcs round : ℕ) (front left all : List SizesLine) → dcs ≤ DATACENTRES → All (FitsStages dcs) left → AreGivenOnce left → All (IsNew front) left → front ++ left ≡ all
     → Leads (said_at section.Stages dcs round front [] 0) (map stages_words left) (said_at section.Stages dcs round all [] 0)
 stages_lead dcs round front [] all few built once new same =
-    ap (λ (given : List StagesOf). said_at section.Stages dcs round given [] 0) (sym (append-nil front) ∙ same)
+    ap (λ (given : List SizesLine). said_at section.Stages dcs round given [] 0) (sym (append-nil front) ∙ same)
 stages_lead dcs round front (given ∷ more) all few built once new same = (
   said_at section.Stages dcs round (front ++ given ∷ []) [] 0,
   (
@@ -166,7 +166,7 @@ stages_lead dcs round front (given ∷ more) all few built once new same = (
 )
 
 -- all lines of a script, one after another
-all_lead : (dcs round : ℕ) (stages : List StagesOf) (plans : List SessionPlan) (steps : List Step) → 1 ≤ dcs → dcs ≤ DATACENTRES → 1 ≤ round → round ≤ ROUND → All (FitsStages dcs) stages → AreGivenOnce stages
+all_lead : (dcs round : ℕ) (stages : List SizesLine) (plans : List SessionPlan) (steps : List Step) → 1 ≤ dcs → dcs ≤ DATACENTRES → 1 ≤ round → round ≤ ROUND → All (FitsStages dcs) stages → AreGivenOnce stages
     → All (FitsPlan dcs) plans → length plans ≤ SESSIONS → commands_of plans ≤ COMMANDS → All (FitsStep (record { dcs = dcs; sessions = plans })) steps → AreWithinAt dcs stages steps → length steps ≤ STEPS
     → Leads start (before_steps dcs round stages plans ++ closing steps) (ended_at dcs round stages plans (commands_of plans) steps)
 unfolding before_steps
@@ -228,7 +228,7 @@ lines_read said number (line ∷ more) after bytes leads ended =
     ] refl leads
 
 -- a stage that keeps its limit by the script's sizes keeps it by the lines that give them
-stage_within : (script : Script) (stages : List StagesOf) (d : ℕ) (stage : Stage) → script.sizes ≡ sizes_upto stages script.workload.dcs → d < script.workload.dcs
+stage_within : (script : Script) (stages : List SizesLine) (d : ℕ) (stage : Stage) → script.sizes ≡ sizes_upto stages script.workload.dcs → d < script.workload.dcs
     → members_at stage (get_or script.sizes d one_of_each) + additions d stage script.steps ≤ MEMBERS → members_at stage (sizes_given stages d) + additions d stage script.steps ≤ MEMBERS
 stage_within script stages d stage same there within =
     let sizes = ap (λ (all : List Sizes). get_or all d one_of_each) same ∙ get_or-sizes_upto stages script.workload.dcs d one_of_each there in
@@ -239,7 +239,7 @@ pub what_is_written_is_read : (script : Script) (lines : List (List ℕ)) → Is
 what_is_written_is_read script lines written =
     let dcs : ℕ = script.workload.dcs in
     let plans : List SessionPlan = script.workload.sessions in
-    let stages : List StagesOf = written.spells.stages in
+    let stages : List SizesLine = written.spells.stages in
     let limits = written.fits.limits in
     let within : AreWithinAt dcs stages script.steps = λ d stage there. stage_within script stages d stage written.spells.sizes there (written.members d stage there) in
     let end : Progress = ended_at dcs script.round stages plans (commands_of plans) script.steps in

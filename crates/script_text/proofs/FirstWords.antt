@@ -90,3 +90,4 @@ turn_word turn.AddBatcher = refl
 turn_word turn.AddQueue = refl
 turn_word turn.AddSender = refl
 turn_word turn.AddReceiver = refl
+turn_word turn.Upgrade = refl

@@ -23,7 +23,7 @@ use Rattle.script_text.specs.declared.keyword.CommandWord.TheVariants.{Append, P
 use Rattle.script_text.specs.declared.keyword.TurnWord.{TurnWord}
 use Rattle.script_text.specs.declared.section.Section.{Section}
 use Rattle.script_text.specs.declared.progress.Progress.{Progress}
-use Rattle.script_text.specs.declared.progress.Stages.{Stages as StagesOf}
+use Rattle.script_text.specs.declared.progress.SizesLine.{SizesLine}
 use Rattle.script_text.specs.Words.{words, is_line_byte, is_empty_word}
 use Rattle.script_text.specs.Reading.{number_at, datacentre_at, body_at, name_at, names_in, greatest_number}
 use Rattle.script_text.specs.Keywords.{text_of, turn_text, keyword_of, stands, turn_arguments, least_words, most_words, is_ended}
@@ -130,7 +130,7 @@ stages-lays said after left here laid few same =
     let dc = bind_ok (datacentre_at said.dcs left) _ after same in
     let sizes = bind_ok (sizes_at dc.0.1) _ after dc.1.1 in
     let new = guard_ok (is_given said.stages dc.0.0) _ _ after sizes.1.1 in
-    let given : StagesOf = record { dc = dc.0.0; sizes = sizes.0.0 } in
+    let given : SizesLine = record { dc = dc.0.0; sizes = sizes.0.0 } in
     let next : Progress = record said { stages = said.stages ++ given ∷ [] } in
     let is : next ≡ after = okay-same next after new.1 in
     let nobody : said.sessions ≡ [] = subst (λ (s : Section). laid_at s said) here laid in

@@ -17,7 +17,7 @@ use Rattle.script_text.specs.declared.members.TheConstants.{STAGES, PLACES}
 use Rattle.script_text.specs.declared.members.Stage.{Stage}
 use Rattle.script_text.specs.declared.members.Stage.TheVariants.{Batchers, Filters, Queues, Maintainers, Senders, Receivers}
 use Rattle.script_text.specs.declared.members.Addition.{Addition}
-use Rattle.script_text.specs.declared.progress.Stages.{Stages as StagesOf}
+use Rattle.script_text.specs.declared.progress.SizesLine.{SizesLine}
 use Rattle.script_text.specs.Members.{stage_number, added_by, is_of, additions, members}
 use Rattle.script_text.specs.Tallies.{place, IsTally}
 use Rattle.script_text.specs.Meaning.{sizes_given, is_full}
@@ -145,11 +145,11 @@ additions-short d stage steps = count_by-le-length (λ s. is_of d stage (added_b
 -- The room that a stage has.
 
 -- with what the steps add, no stage has more members than it may have
-abbrev pub AreWithin : List StagesOf → List Step → Type 0
+abbrev pub AreWithin : List SizesLine → List Step → Type 0
 AreWithin stages steps = (d : ℕ) (stage : Stage) → members stage (sizes_given stages d) + additions d stage steps ≤ MEMBERS
 
 -- what one step more adds
-within_more : (stages : List StagesOf) (steps : List Step) (added : Option Addition) (d : ℕ) (stage : Stage) → members stage (sizes_given stages d) + additions d stage steps ≤ MEMBERS
+within_more : (stages : List SizesLine) (steps : List Step) (added : Option Addition) (d : ℕ) (stage : Stage) → members stage (sizes_given stages d) + additions d stage steps ≤ MEMBERS
     → is_full stages steps added ≡ false → members stage (sizes_given stages d) + (additions d stage steps + one_if (is_of d stage added)) ≤ MEMBERS
 within_more stages steps None d stage before room = omega (arith, before)
 within_more stages steps (Some a) d stage before room =
@@ -163,11 +163,11 @@ within_more stages steps (Some a) d stage before room =
       | false ↦ λ other. omega (arith, before)
     ] refl
 
-pub within_push : (stages : List StagesOf) (steps : List Step) (t : Step) → AreWithin stages steps → is_full stages steps (added_by t) ≡ false → AreWithin stages (steps ++ t ∷ [])
+pub within_push : (stages : List SizesLine) (steps : List Step) (t : Step) → AreWithin stages steps → is_full stages steps (added_by t) ≡ false → AreWithin stages (steps ++ t ∷ [])
 within_push stages steps t within room d stage = omega (arith, within_more stages steps (added_by t) d stage (within d stage) room, additions-push d stage steps t)
 
 -- where steps fit with one of them among them, there is room for what that one adds after those before it
-room_for : (stages : List StagesOf) (done : List Step) (t : Step) (more : List Step) (added : Option Addition) → added_by t ≡ added
+room_for : (stages : List SizesLine) (done : List Step) (t : Step) (more : List Step) (added : Option Addition) → added_by t ≡ added
     → ((a : Addition) → added ≡ Some a → members a.stage (sizes_given stages a.dc) + additions a.dc a.stage (done ++ t ∷ more) ≤ MEMBERS) → is_full stages done added ≡ false
 room_for stages done t more None is fits = refl
 room_for stages done t more (Some a) is fits =
@@ -200,10 +200,11 @@ added_there load (step.AddBatcher d) a fits is = subst (λ (n : Addition). n.dc 
 added_there load (step.AddQueue d) a fits is = subst (λ (n : Addition). n.dc < load.dcs) (same_Some (record { dc = d; stage = Queues }) a is) fits.0
 added_there load (step.AddSender d) a fits is = subst (λ (n : Addition). n.dc < load.dcs) (same_Some (record { dc = d; stage = Senders }) a is) fits.0
 added_there load (step.AddReceiver d) a fits is = subst (λ (n : Addition). n.dc < load.dcs) (same_Some (record { dc = d; stage = Receivers }) a is) fits.0
+added_there load (step.Upgrade d) a fits is = cc
 
 -- the same for steps of a script, at datacentres that are there
-abbrev pub AreWithinAt : ℕ → List StagesOf → List Step → Type 0
+abbrev pub AreWithinAt : ℕ → List SizesLine → List Step → Type 0
 AreWithinAt dcs stages steps = (d : ℕ) (stage : Stage) → d < dcs → members stage (sizes_given stages d) + additions d stage steps ≤ MEMBERS
 
-pub has_room : (load : Workload) (stages : List StagesOf) (done : List Step) (t : Step) (more : List Step) → FitsStep load t → AreWithinAt load.dcs stages (done ++ t ∷ more) → is_full stages done (added_by t) ≡ false
+pub has_room : (load : Workload) (stages : List SizesLine) (done : List Step) (t : Step) (more : List Step) → FitsStep load t → AreWithinAt load.dcs stages (done ++ t ∷ more) → is_full stages done (added_by t) ≡ false
 has_room load stages done t more fits within = room_for stages done t more (added_by t) refl (λ a is. within a.dc a.stage (added_there load t a fits is))

@@ -12,7 +12,7 @@ use Rattle.abstract_log.specs.declared.command.SessionPlan.{SessionPlan}
 use Rattle.script_text.specs.declared.keyword.Keyword.{Keyword}
 use Rattle.script_text.specs.declared.section.Section.{Section}
 use Rattle.script_text.specs.declared.progress.Progress.{Progress}
-use Rattle.script_text.specs.declared.progress.Stages.{Stages as StagesOf}
+use Rattle.script_text.specs.declared.progress.SizesLine.{SizesLine}
 use Rattle.script_text.specs.Words.{is_line_byte}
 use Rattle.script_text.specs.Keywords.{text_of, keywords, keyword_of}
 use Rattle.script_text.specs.Meaning.{onto_last}
@@ -58,26 +58,26 @@ pub record Lays (said after : Progress) (line : List (List ℕ)) : Type 0 where
   pub laid : laid_at after.section after
   pub more : so_far_at after.section after ≡ so_far_at said.section said ++ line ∷ []
 
-pub empty-before : (dcs round : ℕ) (stages : List StagesOf) (plans : List SessionPlan) → stages ≡ [] → plans ≡ []
+pub empty-before : (dcs round : ℕ) (stages : List SizesLine) (plans : List SessionPlan) → stages ≡ [] → plans ≡ []
     → before_steps dcs round stages plans ≡ first_words ∷ datacentres_words dcs ∷ round_words round ∷ []
 unfolding before_steps
 empty-before dcs round stages plans none nobody = rw (none, nobody) refl
 
-stages-list : (stages : List StagesOf) (given : StagesOf) (later : List (List (List ℕ))) → later ≡ []
+stages-list : (stages : List SizesLine) (given : SizesLine) (later : List (List (List ℕ))) → later ≡ []
     → map stages_words (stages ++ given ∷ []) ++ later ≡ (map stages_words stages ++ later) ++ stages_words given ∷ []
 stages-list stages given later none =
     subst (λ (ls : List (List (List ℕ))). map stages_words (stages ++ given ∷ []) ++ ls ≡ (map stages_words stages ++ ls) ++ stages_words given ∷ []) (sym none)
     (append-nil (map stages_words (stages ++ given ∷ [])) ∙ map-append stages_words stages (given ∷ [])
     ∙ ap (λ (ls : List (List (List ℕ))). ls ++ stages_words given ∷ []) (sym (append-nil (map stages_words stages))))
 
-pub stages-before : (dcs round : ℕ) (stages : List StagesOf) (given : StagesOf) (plans : List SessionPlan) → plans ≡ []
+pub stages-before : (dcs round : ℕ) (stages : List SizesLine) (given : SizesLine) (plans : List SessionPlan) → plans ≡ []
     → before_steps dcs round (stages ++ given ∷ []) plans ≡ before_steps dcs round stages plans ++ stages_words given ∷ []
 unfolding before_steps
 stages-before dcs round stages given plans nobody =
     ap (λ (ls : List (List (List ℕ))). first_words ∷ datacentres_words dcs ∷ round_words round ∷ ls)
     (stages-list stages given (flat_map plan_lines plans) (ap (λ (ps : List SessionPlan). flat_map plan_lines ps) nobody))
 
-pub sessions-before : (dcs round : ℕ) (stages : List StagesOf) (plans : List SessionPlan) (home : ℕ)
+pub sessions-before : (dcs round : ℕ) (stages : List SizesLine) (plans : List SessionPlan) (home : ℕ)
     → before_steps dcs round stages (plans ++ record { home = home; commands = [] } ∷ []) ≡ before_steps dcs round stages plans ++ (codes "session" ∷ letter home ∷ []) ∷ []
 unfolding before_steps
 sessions-before dcs round stages plans home = simp (flat_map-append, append_assoc) refl
@@ -91,7 +91,7 @@ onto_last-lines (plan ∷ []) c some =
 onto_last-lines (plan ∷ next ∷ more) c some =
     ap (λ (ls : List (List (List ℕ))). plan_lines plan ++ ls) (onto_last-lines (next ∷ more) c (omega arith)) ∙ sym (append_assoc (plan_lines plan) (flat_map plan_lines (next ∷ more)) (command_words c ∷ []))
 
-pub commands-before : (dcs round : ℕ) (stages : List StagesOf) (plans : List SessionPlan) (c : Command) → 0 < length plans
+pub commands-before : (dcs round : ℕ) (stages : List SizesLine) (plans : List SessionPlan) (c : Command) → 0 < length plans
     → before_steps dcs round stages (onto_last plans c) ≡ before_steps dcs round stages plans ++ command_words c ∷ []
 unfolding before_steps
 commands-before dcs round stages plans c some =

@@ -22,7 +22,7 @@ use Rattle.script_text.specs.declared.keyword.CommandWord.TheVariants.{Append, P
 use Rattle.script_text.specs.declared.keyword.TurnWord.{TurnWord}
 use Rattle.script_text.specs.declared.section.Section.{Section}
 use Rattle.script_text.specs.declared.progress.Progress.{Progress}
-use Rattle.script_text.specs.declared.progress.Stages.{Stages as StagesOf}
+use Rattle.script_text.specs.declared.progress.SizesLine.{SizesLine}
 use Rattle.script_text.specs.Words.{words, is_line_byte, is_empty_word}
 use Rattle.script_text.specs.Reading.{number_at, datacentre_at, body_at, name_at, names_in, greatest_number}
 use Rattle.script_text.specs.Keywords.{keyword_of, stands, turn_arguments, least_words, most_words, is_ended}
@@ -60,20 +60,20 @@ pub record IsSound (said : Progress) : Type 0 where
   pub members : AreWithin said.stages said.steps
   pub short : length said.steps ≤ STEPS
 
-sizes_found-fits : (given : Option StagesOf) → IfSome given (λ g. FitsSizes g.sizes) → FitsSizes (sizes_found given)
+sizes_found-fits : (given : Option SizesLine) → IfSome given (λ g. FitsSizes g.sizes) → FitsSizes (sizes_found given)
 sizes_found-fits None fits = let size : IsSize 1 = (omega arith, omega arith) in record { batchers = size; filters = size; queues = size; maintainers = size; indexers = size; senders = size; receivers = size }
 sizes_found-fits (Some given) fits = fits
 
-find-fits : (test : StagesOf → Bool) (stages : List StagesOf) → All (λ (g : StagesOf). FitsSizes g.sizes) stages → IfSome (find test stages) (λ g. FitsSizes g.sizes)
+find-fits : (test : SizesLine → Bool) (stages : List SizesLine) → All (λ (g : SizesLine). FitsSizes g.sizes) stages → IfSome (find test stages) (λ g. FitsSizes g.sizes)
 find-fits test [] all = tt
 find-fits test (given ∷ more) all =
     elim (test given) as (λ v. IfSome (cond v (Some given) (find test more)) (λ g. FitsSizes g.sizes)) [
-      | true ↦ All-head (λ (g : StagesOf). FitsSizes g.sizes) given more all
-      | false ↦ find-fits test more (All-tail (λ (g : StagesOf). FitsSizes g.sizes) given more all)
+      | true ↦ All-head (λ (g : SizesLine). FitsSizes g.sizes) given more all
+      | false ↦ find-fits test more (All-tail (λ (g : SizesLine). FitsSizes g.sizes) given more all)
     ]
 
 -- the sizes of each datacentre, where those that are given fit
-sizes_given-fit : (stages : List StagesOf) (dc : ℕ) → All (λ (g : StagesOf). FitsSizes g.sizes) stages → FitsSizes (sizes_given stages dc)
+sizes_given-fit : (stages : List SizesLine) (dc : ℕ) → All (λ (g : SizesLine). FitsSizes g.sizes) stages → FitsSizes (sizes_given stages dc)
 sizes_given-fit stages dc all = sizes_found-fits (find (λ given. nat_eq given.dc dc) stages) (find-fits (λ given. nat_eq given.dc dc) stages all)
 
 members_few : (stage : StageOf) (sizes : Sizes) → FitsSizes sizes → members stage sizes ≤ MEMBERS
@@ -85,7 +85,7 @@ members_few Senders sizes fits = fits.senders.1
 members_few Receivers sizes fits = fits.receivers.1
 
 -- where no step has been said, the sizes alone count
-none_added : {dcs : ℕ} (stages : List StagesOf) (steps : List Step) → steps ≡ [] → All (FitsStages dcs) stages → AreWithin stages steps
+none_added : {dcs : ℕ} (stages : List SizesLine) (steps : List Step) → steps ≡ [] → All (FitsStages dcs) stages → AreWithin stages steps
 none_added stages steps none fits d stage =
     let few = members_few stage (sizes_given stages d) (sizes_given-fit stages d (λ k g within. (fits k g within).sizes)) in
     omega (arith, few, ap (λ (ts : List Step). additions d stage ts) none)
@@ -111,21 +111,21 @@ start-sound = record {
 pub eq-sym : (a b : ℕ) → nat_eq a b ≡ false → nat_eq b a ≡ false
 eq-sym a b h = grind (arith, nat_tests, h)
 
-pub is_given-push : (front : List StagesOf) (given : StagesOf) (dc : ℕ) → is_given front dc ≡ false → nat_eq given.dc dc ≡ false → is_given (front ++ given ∷ []) dc ≡ false
+pub is_given-push : (front : List SizesLine) (given : SizesLine) (dc : ℕ) → is_given front dc ≡ false → nat_eq given.dc dc ≡ false → is_given (front ++ given ∷ []) dc ≡ false
 is_given-push [] given dc before other = or_from (nat_eq given.dc dc) false other refl
 is_given-push (first ∷ more) given dc before other =
     let both = or_parts (nat_eq first.dc dc) (is_given more dc) before in
     or_from (nat_eq first.dc dc) (is_given (more ++ given ∷ []) dc) both.0 (is_given-push more given dc both.1 other)
 
-once-push : (front : List StagesOf) (given : StagesOf) → AreGivenOnce front → is_given front given.dc ≡ false → AreGivenOnce (front ++ given ∷ [])
+once-push : (front : List SizesLine) (given : SizesLine) → AreGivenOnce front → is_given front given.dc ≡ false → AreGivenOnce (front ++ given ∷ [])
 once-push [] given once new = (refl, tt)
 once-push (first ∷ more) given once new =
     let both = or_parts (nat_eq first.dc given.dc) (is_given more given.dc) new in
     (is_given-push more given first.dc once.0 (eq-sym first.dc given.dc both.0), once-push more given once.1 both.1)
 
 -- where no line gave sizes, all that did keep anything
-none_given : (dcs : ℕ) (stages : List StagesOf) → stages ≡ [] → All (FitsStages dcs) stages
-none_given dcs stages none = subst (λ (gs : List StagesOf). All (FitsStages dcs) gs) (sym none) (All-nil (FitsStages dcs))
+none_given : (dcs : ℕ) (stages : List SizesLine) → stages ≡ [] → All (FitsStages dcs) stages
+none_given dcs stages none = subst (λ (gs : List SizesLine). All (FitsStages dcs) gs) (sym none) (All-nil (FitsStages dcs))
 
 -- where no session has begun, all sessions keep anything
 none_fits : (dcs : ℕ) (plans : List SessionPlan) → plans ≡ [] → All (FitsPlan dcs) plans
@@ -209,7 +209,7 @@ stages-sound said after left here sound same =
     let dc = bind_ok (datacentre_at said.dcs left) _ after same in
     let sizes = bind_ok (sizes_at dc.0.1) _ after dc.1.1 in
     let new = guard_ok (is_given said.stages dc.0.0) _ _ after sizes.1.1 in
-    let given : StagesOf = record { dc = dc.0.0; sizes = sizes.0.0 } in
+    let given : SizesLine = record { dc = dc.0.0; sizes = sizes.0.0 } in
     let fits : FitsStages said.dcs given = record { dc = datacentre_takes said.dcs left dc.0 dc.1.0; sizes = sizes_take dc.0.1 sizes.0 sizes.1.0 } in
     let is : record said { stages = said.stages ++ given ∷ [] } ≡ after = cc (new.1) in
     subst IsSound is (record {
@@ -449,11 +449,11 @@ line-sound said after line sound same =
           words-sound said after (words line) sound going.1
     ]
 
-sizes_upto-fits : (stages : List StagesOf) (dcs : ℕ) → All (λ (g : StagesOf). FitsSizes g.sizes) stages → All FitsSizes (sizes_upto stages dcs)
+sizes_upto-fits : (stages : List SizesLine) (dcs : ℕ) → All (λ (g : SizesLine). FitsSizes g.sizes) stages → All FitsSizes (sizes_upto stages dcs)
 sizes_upto-fits stages zero all = All-nil FitsSizes
 sizes_upto-fits stages (suc dc) all = All-push FitsSizes (sizes_upto stages dc) (sizes_given stages dc) (sizes_upto-fits stages dc all) (sizes_given-fit stages dc all)
 
-length-sizes_upto : (stages : List StagesOf) (dcs : ℕ) → length (sizes_upto stages dcs) ≡ dcs
+length-sizes_upto : (stages : List SizesLine) (dcs : ℕ) → length (sizes_upto stages dcs) ≡ dcs
 length-sizes_upto stages zero = refl
 length-sizes_upto stages (suc dc) = omega (arith, length-sizes_upto stages dc, length-append (sizes_upto stages dc) (sizes_given stages dc ∷ []))
 
@@ -475,7 +475,7 @@ said-fits said sound here =
     }
 
 -- the sizes that the script has of a datacentre are those that its line gives
-pub get_or-sizes_upto : (stages : List StagesOf) (dcs d : ℕ) (other : Sizes) → d < dcs → get_or (sizes_upto stages dcs) d other ≡ sizes_given stages d
+pub get_or-sizes_upto : (stages : List SizesLine) (dcs d : ℕ) (other : Sizes) → d < dcs → get_or (sizes_upto stages dcs) d other ≡ sizes_given stages d
 get_or-sizes_upto stages zero d other within = absurd (omega (arith, within))
 get_or-sizes_upto stages (suc dc) d other within =
     let many = length-sizes_upto stages dc in

@@ -9,7 +9,7 @@ use Rattle.std.proofs.lemmas.Bool.Decides.{nat_tests}
 use Rattle.abstract_log.specs.declared.command.Workload.{Workload}
 use Rattle.abstract_log.specs.declared.script.Step.{Step}
 use Rattle.script_text.specs.declared.keyword.TurnWord.{TurnWord}
-use Rattle.script_text.specs.declared.keyword.TurnWord.TheVariants.{Client, Flush, Pass, Stamp, Token, Place, Gossip, Post, Learn, Send, Deliver, Lose, Copy, Floor, Collect, Announce, Mark, AddMaintainer, AddBatcher, AddQueue, AddSender, AddReceiver}
+use Rattle.script_text.specs.declared.keyword.TurnWord.TheVariants.{Client, Flush, Pass, Stamp, Token, Place, Gossip, Post, Learn, Send, Deliver, Lose, Copy, Floor, Collect, Announce, Mark, AddMaintainer, AddBatcher, AddQueue, AddSender, AddReceiver, Upgrade}
 use Rattle.script_text.specs.declared.arguments.Argument.{Argument}
 use Rattle.script_text.specs.declared.arguments.Argument.TheVariants.{Datacentre, Other, Session, Member, Second, Packet, Position}
 use Rattle.script_text.specs.declared.arguments.Arguments.{Arguments}
@@ -276,6 +276,11 @@ turn_says load AddReceiver left given t w same =
     let said : step.AddReceiver w.0 ≡ t = subst (λ (g : Arguments). step_said AddReceiver g ≡ t) (sym end.1) same in
     let words : left ≡ letter w.0 ∷ [] = w.1.1.0 ∙ ap (λ (ws : List (List ℕ)). letter w.0 ∷ ws) end.0 in
     subst (λ (s : Step). IsTurn load AddReceiver left s) said (record { words = ap (λ (ws : List (List ℕ)). codes "addreceiver" ∷ ws) words; fits = (w.1.1.1.0, tt) })
+turn_says load Upgrade left given t w same =
+    let end = w.1.1.1.1 in
+    let said : step.Upgrade w.0 ≡ t = subst (λ (g : Arguments). step_said Upgrade g ≡ t) (sym end.1) same in
+    let words : left ≡ letter w.0 ∷ [] = w.1.1.0 ∙ ap (λ (ws : List (List ℕ)). letter w.0 ∷ ws) end.0 in
+    subst (λ (s : Step). IsTurn load Upgrade left s) said (record { words = ap (λ (ws : List (List ℕ)). codes "upgrade" ∷ ws) words; fits = (w.1.1.1.0, tt) })
 
 abbrev pub load_of : Progress → Workload
 load_of said = record { dcs = said.dcs; sessions = said.sessions }

@@ -15,7 +15,7 @@ use Rattle.script_text.specs.declared.keyword.Keyword.TheVariants.{Chariots, Dat
 use Rattle.script_text.specs.declared.keyword.CommandWord.TheVariants.{Append, Put, Del, Get, Tx, Read, Last}
 use Rattle.script_text.specs.declared.section.Section.{Section}
 use Rattle.script_text.specs.declared.progress.Progress.{Progress}
-use Rattle.script_text.specs.declared.progress.Stages.{Stages as StagesOf}
+use Rattle.script_text.specs.declared.progress.SizesLine.{SizesLine}
 use Rattle.script_text.specs.Words.{is_empty_word}
 use Rattle.script_text.specs.Reading.{number_at, greatest_number}
 use Rattle.script_text.specs.Keywords.{is_stages, is_sessions, is_ended}
@@ -38,7 +38,7 @@ pub record Takes (said : Progress) (line : List (List ℕ)) (after : Progress) :
   pub means : words_after said line ≡ Ok after
 
 -- what has been said in a section
-abbrev pub said_at : Section → ℕ → ℕ → List StagesOf → List SessionPlan → ℕ → Progress
+abbrev pub said_at : Section → ℕ → ℕ → List SizesLine → List SessionPlan → ℕ → Progress
 said_at here dcs round stages sessions commands = record { section = here; dcs = dcs; round = round; stages = stages; sessions = sessions; commands = commands; steps = [] }
 
 chariots_means : (said : Progress) → chariots_line said (decimal 1 ∷ []) ≡ Ok (record said { section = section.Datacentres })
@@ -104,14 +104,14 @@ full_sizes s fits =
     (full_decimal s.senders (decimal s.receivers ∷ []) (omega (arith, fits.senders.1))
     (full_decimal s.receivers [] (omega (arith, fits.receivers.1)) refl))))))
 
-stages_means : (said : Progress) (given : StagesOf) → given.dc < said.dcs → said.dcs ≤ DATACENTRES → FitsSizes given.sizes → is_given said.stages given.dc ≡ false
+stages_means : (said : Progress) (given : SizesLine) → given.dc < said.dcs → said.dcs ≤ DATACENTRES → FitsSizes given.sizes → is_given said.stages given.dc ≡ false
     → stages_line said (letter given.dc ∷ sizes_words given.sizes) ≡ Ok (record said { stages = said.stages ++ given ∷ [] })
 unfolding stages_line
 stages_means said given within few fits new =
     rw (datacentre_reads said.dcs given.dc (sizes_words given.sizes) within few, sizes_read given.sizes fits)
     (cond-false (is_given said.stages given.dc) (Err GivenTwice) (Ok (record said { stages = said.stages ++ given ∷ [] })) new)
 
-pub stages_takes : (dcs round : ℕ) (front : List StagesOf) (given : StagesOf) → dcs ≤ DATACENTRES → FitsStages dcs given → is_given front given.dc ≡ false
+pub stages_takes : (dcs round : ℕ) (front : List SizesLine) (given : SizesLine) → dcs ≤ DATACENTRES → FitsStages dcs given → is_given front given.dc ≡ false
     → Takes (said_at section.Stages dcs round front [] 0) (stages_words given) (said_at section.Stages dcs round (front ++ given ∷ []) [] 0)
 stages_takes dcs round front given few fits new = record {
   full = full (codes "stages") (letter given.dc ∷ sizes_words given.sizes) (omega arith) (full (letter given.dc) (sizes_words given.sizes) (omega arith) (full_sizes given.sizes fits.sizes));
@@ -131,7 +131,7 @@ session_means said home within few room =
 abbrev session_words : ℕ → List (List ℕ)
 session_words home = codes "session" ∷ letter home ∷ []
 
-pub session_takes : (here : Section) (dcs round : ℕ) (stages : List StagesOf) (front : List SessionPlan) (count home : ℕ) → (is_stages here || is_sessions here) ≡ true → home < dcs → dcs ≤ DATACENTRES → length front < SESSIONS
+pub session_takes : (here : Section) (dcs round : ℕ) (stages : List SizesLine) (front : List SessionPlan) (count home : ℕ) → (is_stages here || is_sessions here) ≡ true → home < dcs → dcs ≤ DATACENTRES → length front < SESSIONS
     → Takes (said_at here dcs round stages front count) (session_words home) (said_at section.Sessions dcs round stages (front ++ record { home = home; commands = [] } ∷ []) count)
 session_takes here dcs round stages front count home place within few room = record {
   full = full (codes "session") (letter home ∷ []) (omega arith) (full (letter home) [] (omega arith) refl);
@@ -219,7 +219,7 @@ command_says said (command.Last tag n) here fits = record {
 abbrev pub with_plan : List SessionPlan → ℕ → List Command → List SessionPlan
 with_plan front home commands = front ++ record { home = home; commands = commands } ∷ []
 
-pub command_takes : (dcs round : ℕ) (stages : List StagesOf) (front : List SessionPlan) (home : ℕ) (done : List Command) (count : ℕ) (c : Command) → FitsCommand c → count < COMMANDS
+pub command_takes : (dcs round : ℕ) (stages : List SizesLine) (front : List SessionPlan) (home : ℕ) (done : List Command) (count : ℕ) (c : Command) → FitsCommand c → count < COMMANDS
     → Takes (said_at section.Sessions dcs round stages (with_plan front home done) count) (command_words c) (said_at section.Sessions dcs round stages (with_plan front home (done ++ c ∷ [])) (count + 1))
 command_takes dcs round stages front home done count c fits few =
     let said : Progress = said_at section.Sessions dcs round stages (with_plan front home done) count in

@@ -18,7 +18,7 @@ use Rattle.script_text.specs.declared.arguments.Argument.{Argument}
 use Rattle.script_text.specs.declared.arguments.Argument.TheVariants.{Datacentre, Other, Session as SessionNumber, Member, Second, Packet, Position}
 use Rattle.script_text.specs.declared.arguments.Arguments.{Arguments}
 use Rattle.script_text.specs.declared.progress.Progress.{Progress}
-use Rattle.script_text.specs.declared.progress.Stages.{Stages as StagesOf}
+use Rattle.script_text.specs.declared.progress.SizesLine.{SizesLine}
 use Rattle.script_text.specs.Words.{is_empty_word}
 use Rattle.script_text.specs.Reading.{◌>>=◌, greatest_number}
 use Rattle.script_text.specs.Arguments.{no_arguments, argument_at, arguments_at, step_said}
@@ -328,9 +328,20 @@ step_comes load (step.AddReceiver d) fits = record {
   writes = (d, ([], (refl, (fits.0, (refl, refl)))));
   says = refl;
 }
+step_comes load (step.Upgrade d) fits = record {
+  word = turn.Upgrade;
+  left = letter d ∷ [];
+  given = record no_arguments { dc = d };
+  keyword = turn_word turn.Upgrade;
+  words = refl;
+  some = omega arith;
+  many = refl;
+  writes = (d, ([], (refl, (fits.0, (refl, refl)))));
+  says = refl;
+}
 
 -- what has been said when some steps have been
-abbrev pub stepping : ℕ → ℕ → List StagesOf → List SessionPlan → ℕ → List Step → Progress
+abbrev pub stepping : ℕ → ℕ → List SizesLine → List SessionPlan → ℕ → List Step → Progress
 stepping dcs round stages plans count steps = record { section = section.Steps; dcs = dcs; round = round; stages = stages; sessions = plans; commands = count; steps = steps }
 
 turn_means : (said : Progress) (word : TurnWord) (left : List (List ℕ)) (given : Arguments) (t : Step) → said.dcs ≤ DATACENTRES → length said.sessions ≤ SESSIONS → length said.steps < STEPS
@@ -349,7 +360,7 @@ as_many n m same =
     let more : nat_lt m n ≡ false = grind (arith, nat_tests) in
     or_from (nat_lt n m) (nat_lt m n) less more
 
-pub turn_takes_line : (dcs round : ℕ) (stages : List StagesOf) (plans : List SessionPlan) (count : ℕ) (done : List Step) (t : Step) → dcs ≤ DATACENTRES → length plans ≤ SESSIONS → length done < STEPS
+pub turn_takes_line : (dcs round : ℕ) (stages : List SizesLine) (plans : List SessionPlan) (count : ℕ) (done : List Step) (t : Step) → dcs ≤ DATACENTRES → length plans ≤ SESSIONS → length done < STEPS
     → FitsStep (record { dcs = dcs; sessions = plans }) t → is_full stages done (added_by t) ≡ false
     → Takes (stepping dcs round stages plans count done) (turn_words t) (stepping dcs round stages plans count (done ++ t ∷ []))
 turn_takes_line dcs round stages plans count done t few room short fits spare =

@@ -5,7 +5,7 @@ use Rattle.abstract_log.specs.declared.script.Step.{Step}
 use Rattle.abstract_log.specs.declared.script.Step.TheVariants as step
 use Rattle.script_text.specs.declared.fault.Cause.{Cause}
 use Rattle.script_text.specs.declared.keyword.TurnWord.{TurnWord}
-use Rattle.script_text.specs.declared.keyword.TurnWord.TheVariants.{Client, Flush, Pass, Stamp, Token, Place, Gossip, Post, Learn, Send, Deliver, Lose, Copy, Floor, Collect, Announce, Mark, AddMaintainer, AddBatcher, AddQueue, AddSender, AddReceiver}
+use Rattle.script_text.specs.declared.keyword.TurnWord.TheVariants.{Client, Flush, Pass, Stamp, Token, Place, Gossip, Post, Learn, Send, Deliver, Lose, Copy, Floor, Collect, Announce, Mark, AddMaintainer, AddBatcher, AddQueue, AddSender, AddReceiver, Upgrade}
 use Rattle.script_text.specs.declared.arguments.Argument.{Argument}
 use Rattle.script_text.specs.declared.arguments.Argument.TheVariants.{Datacentre, Other, Session, Member, Second, Packet, Position}
 use Rattle.script_text.specs.declared.arguments.Arguments.{Arguments}
@@ -68,3 +68,4 @@ step_said AddBatcher given = step.AddBatcher given.dc
 step_said AddQueue given = step.AddQueue given.dc
 step_said AddSender given = step.AddSender given.dc
 step_said AddReceiver given = step.AddReceiver given.dc
+step_said Upgrade given = step.Upgrade given.dc

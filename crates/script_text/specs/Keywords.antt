@@ -9,7 +9,7 @@ use Rattle.script_text.specs.declared.keyword.Keyword.TheVariants.{Chariots, Dat
 use Rattle.script_text.specs.declared.keyword.CommandWord.{CommandWord}
 use Rattle.script_text.specs.declared.keyword.CommandWord.TheVariants.{Append, Put, Del, Get, Tx, Read, Last}
 use Rattle.script_text.specs.declared.keyword.TurnWord.{TurnWord}
-use Rattle.script_text.specs.declared.keyword.TurnWord.TheVariants.{Client, Flush, Pass, Stamp, Token, Place, Gossip, Post, Learn, Send, Deliver, Lose, Copy, Floor, Collect, Announce, Mark, AddMaintainer, AddBatcher, AddQueue, AddSender, AddReceiver}
+use Rattle.script_text.specs.declared.keyword.TurnWord.TheVariants.{Client, Flush, Pass, Stamp, Token, Place, Gossip, Post, Learn, Send, Deliver, Lose, Copy, Floor, Collect, Announce, Mark, AddMaintainer, AddBatcher, AddQueue, AddSender, AddReceiver, Upgrade}
 use Rattle.script_text.specs.declared.arguments.Argument.{Argument}
 use Rattle.script_text.specs.declared.arguments.Argument.TheVariants as argument
 
@@ -47,6 +47,7 @@ turn_text AddBatcher = codes "addbatcher"
 turn_text AddQueue = codes "addqueue"
 turn_text AddSender = codes "addsender"
 turn_text AddReceiver = codes "addreceiver"
+turn_text Upgrade = codes "upgrade"
 
 -- the first word of a line
 unfoldable pub text_of : Keyword → List ℕ
@@ -65,7 +66,8 @@ abbrev pub keywords : List Keyword
 keywords = Chariots ∷ Datacentres ∷ Round ∷ Stages ∷ Session
     ∷ Command Append ∷ Command Put ∷ Command Del ∷ Command Get ∷ Command Tx ∷ Command Read ∷ Command Last ∷ Steps
     ∷ Turn Client ∷ Turn Flush ∷ Turn Pass ∷ Turn Stamp ∷ Turn Token ∷ Turn Place ∷ Turn Gossip ∷ Turn Post ∷ Turn Learn ∷ Turn Send ∷ Turn Deliver
-    ∷ Turn Lose ∷ Turn Copy ∷ Turn Floor ∷ Turn Collect ∷ Turn Announce ∷ Turn Mark ∷ Turn AddMaintainer ∷ Turn AddBatcher ∷ Turn AddQueue ∷ Turn AddSender ∷ Turn AddReceiver ∷ End ∷ []
+    ∷ Turn Lose ∷ Turn Copy ∷ Turn Floor ∷ Turn Collect ∷ Turn Announce ∷ Turn Mark ∷ Turn AddMaintainer ∷ Turn AddBatcher ∷ Turn AddQueue ∷ Turn AddSender ∷ Turn AddReceiver ∷ Turn Upgrade
+    ∷ End ∷ []
 
 -- the keyword that a word spells
 unfoldable pub keyword_of : List ℕ → Option Keyword
@@ -136,6 +138,7 @@ turn_arguments AddBatcher = argument.Datacentre ∷ []
 turn_arguments AddQueue = argument.Datacentre ∷ []
 turn_arguments AddSender = argument.Datacentre ∷ []
 turn_arguments AddReceiver = argument.Datacentre ∷ []
+turn_arguments Upgrade = argument.Datacentre ∷ []
 
 -- how many words follow the first, at least and at most
 abbrev pub least_command_words : CommandWord → ℕ

@@ -19,7 +19,7 @@ use Rattle.script_text.specs.declared.keyword.CommandWord.TheVariants.{Append, P
 use Rattle.script_text.specs.declared.keyword.TurnWord.{TurnWord}
 use Rattle.script_text.specs.declared.section.Section.TheVariants as section
 use Rattle.script_text.specs.declared.progress.Progress.{Progress}
-use Rattle.script_text.specs.declared.progress.Stages.{Stages as StagesOf}
+use Rattle.script_text.specs.declared.progress.SizesLine.{SizesLine}
 use Rattle.script_text.specs.Words.{words, is_line_byte, is_empty_word}
 use Rattle.script_text.specs.Keywords.{keyword_of, stands, turn_arguments, least_words, most_words, is_ended}
 use Rattle.script_text.specs.Reading.{◌>>=◌, greatest_number, number_at, datacentre_at, body_at, name_at, names_in}
@@ -60,7 +60,7 @@ sizes_at rest = do
   receivers ← number_at 1 MEMBERS senders.1
   Ok (record { batchers = batchers.0; filters = filters.0; queues = queues.0; maintainers = maintainers.0; indexers = indexers.0; senders = senders.0; receivers = receivers.0 }, receivers.1)
 
-abbrev pub is_given : List StagesOf → ℕ → Bool
+abbrev pub is_given : List SizesLine → ℕ → Bool
 is_given stages dc = list_any (λ given. given.dc == dc) stages
 
 unfoldable pub stages_line : Progress → List (List ℕ) → Result Progress Cause
@@ -134,15 +134,15 @@ command_meaning said Read rest = read_line said rest
 command_meaning said Last rest = last_line said rest
 
 -- the sizes that a line gives
-abbrev pub sizes_found : Option StagesOf → Sizes
+abbrev pub sizes_found : Option SizesLine → Sizes
 sizes_found None = one_of_each
 sizes_found (Some given) = given.sizes
 
-abbrev pub sizes_given : List StagesOf → ℕ → Sizes
+abbrev pub sizes_given : List SizesLine → ℕ → Sizes
 sizes_given stages dc = sizes_found (find (λ given. given.dc == dc) stages)
 
 -- whether an addition comes to a stage that has as many members as it may have
-abbrev pub is_full : List StagesOf → List Step → Option Addition → Bool
+abbrev pub is_full : List SizesLine → List Step → Option Addition → Bool
 is_full stages steps None = false
 is_full stages steps (Some a) = nat_le MEMBERS (members a.stage (sizes_given stages a.dc) + additions a.dc a.stage steps)
 
@@ -197,7 +197,7 @@ line_after said line =
     else words_after said (words line))))
 
 -- the sizes of the datacentres below a number
-abbrev pub sizes_upto : List StagesOf → ℕ → List Sizes
+abbrev pub sizes_upto : List SizesLine → ℕ → List Sizes
 sizes_upto stages zero = []
 sizes_upto stages (suc dc) = sizes_upto stages dc ++ sizes_given stages dc ∷ []
 

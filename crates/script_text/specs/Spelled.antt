@@ -8,7 +8,7 @@ use Rattle.abstract_log.specs.declared.command.SessionPlan.{SessionPlan}
 use Rattle.abstract_log.specs.declared.script.Script.{Script}
 use Rattle.abstract_log.specs.declared.script.Step.{Step}
 use Rattle.abstract_log.specs.declared.script.Step.TheVariants as step
-use Rattle.script_text.specs.declared.progress.Stages.{Stages}
+use Rattle.script_text.specs.declared.progress.SizesLine.{SizesLine}
 use Rattle.script_text.specs.Words.{words, is_line_byte}
 use Rattle.abstract_log.specs.Fits.{FitsSizes, FitsScript}
 use Rattle.abstract_log.specs.Turns.{FitsStep}
@@ -35,7 +35,7 @@ abbrev pub plan_lines : SessionPlan → List (List (List ℕ))
 plan_lines plan = (codes "session" ∷ letter plan.home ∷ []) ∷ map command_words plan.commands
 
 -- the sizes of one datacentre
-abbrev pub stages_words : Stages → List (List ℕ)
+abbrev pub stages_words : SizesLine → List (List ℕ)
 stages_words given = codes "stages" ∷ letter given.dc ∷ decimal given.sizes.batchers ∷ decimal given.sizes.filters ∷ decimal given.sizes.queues
     ∷ decimal given.sizes.maintainers ∷ decimal given.sizes.indexers ∷ decimal given.sizes.senders ∷ decimal given.sizes.receivers ∷ []
 
@@ -72,9 +72,10 @@ turn_words (step.AddBatcher d) = codes "addbatcher" ∷ letter d ∷ []
 turn_words (step.AddQueue d) = codes "addqueue" ∷ letter d ∷ []
 turn_words (step.AddSender d) = codes "addsender" ∷ letter d ∷ []
 turn_words (step.AddReceiver d) = codes "addreceiver" ∷ letter d ∷ []
+turn_words (step.Upgrade d) = codes "upgrade" ∷ letter d ∷ []
 
 -- all before `steps`
-unfoldable pub before_steps : ℕ → ℕ → List Stages → List SessionPlan → List (List (List ℕ))
+unfoldable pub before_steps : ℕ → ℕ → List SizesLine → List SessionPlan → List (List (List ℕ))
 before_steps dcs round stages plans = first_words ∷ datacentres_words dcs ∷ round_words round ∷ (map stages_words stages ++ flat_map plan_lines plans)
 
 abbrev pub steps_words : List (List ℕ)
@@ -90,17 +91,17 @@ said_words (line ∷ more) = if is_passed_over line then said_words more else wo
 
 -- some `stages` lines give the script's sizes, and with them the lines are those of the script
 pub record Spells (script : Script) (lines : List (List ℕ)) : Type 0 where
-  pub stages : List Stages
+  pub stages : List SizesLine
   pub sizes : script.sizes ≡ sizes_upto stages script.workload.dcs
   pub written : said_words lines ≡ before_steps script.workload.dcs script.round stages script.workload.sessions ++ steps_words ∷ (map turn_words script.steps ++ end_words ∷ [])
 
 -- the sizes of each datacentre are given at most once
-abbrev pub AreGivenOnce : List Stages → Type 0
+abbrev pub AreGivenOnce : List SizesLine → Type 0
 AreGivenOnce [] = Unit {0}
 AreGivenOnce (given ∷ more) = (is_given more given.dc ≡ false) × AreGivenOnce more
 
 -- the sizes of a datacentre that there is
-pub record FitsStages (dcs : ℕ) (given : Stages) : Type 0 where
+pub record FitsStages (dcs : ℕ) (given : SizesLine) : Type 0 where
   pub dc : given.dc < dcs
   pub sizes : FitsSizes given.sizes
 

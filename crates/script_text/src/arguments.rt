@@ -140,5 +140,6 @@ pub fn step_said(word: TurnWord, given: Arguments) -> Step
         TurnWord::AddQueue => Step::AddQueue { d },
         TurnWord::AddSender => Step::AddSender { d },
         TurnWord::AddReceiver => Step::AddReceiver { d },
+        TurnWord::Upgrade => Step::Upgrade { d },
     }
 }

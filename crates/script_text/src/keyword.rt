@@ -97,10 +97,12 @@ pub enum TurnWord {
     AddSender,
     /// A receiver is added.
     AddReceiver,
+    /// The senders of a datacentre go over to wire form 2.
+    Upgrade,
 }
 
 // The words that begin lines.
-const KEYWORDS: [Keyword; 36] = [
+const KEYWORDS: [Keyword; 37] = [
     Keyword::Chariots,
     Keyword::Datacentres,
     Keyword::Round,
@@ -136,6 +138,7 @@ const KEYWORDS: [Keyword; 36] = [
     Keyword::Turn(TurnWord::AddQueue),
     Keyword::Turn(TurnWord::AddSender),
     Keyword::Turn(TurnWord::AddReceiver),
+    Keyword::Turn(TurnWord::Upgrade),
     Keyword::End,
 ];
 
@@ -278,6 +281,7 @@ impl TurnWord {
             TurnWord::AddQueue => b"addqueue",
             TurnWord::AddSender => b"addsender",
             TurnWord::AddReceiver => b"addreceiver",
+            TurnWord::Upgrade => b"upgrade",
         }
     }
 
@@ -313,6 +317,7 @@ impl TurnWord {
             TurnWord::AddQueue => &[Argument::Datacentre],
             TurnWord::AddSender => &[Argument::Datacentre],
             TurnWord::AddReceiver => &[Argument::Datacentre],
+            TurnWord::Upgrade => &[Argument::Datacentre],
         }
     }
 }

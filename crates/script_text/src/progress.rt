@@ -20,7 +20,7 @@ use std::alloc::Global;
 
 /// How many members the stages of one datacentre have, as a line gives them.
 #[derive(Clone, Copy, Debug, PartialEq, Eq)]
-pub struct Stages {
+pub struct SizesLine {
     /// The datacentre.
     pub dc: DcId,
     /// The numbers of members of its stages.
@@ -37,7 +37,7 @@ pub struct Progress {
     /// How many positions in a row one maintainer owns, 0 before their line.
     pub round: u32,
     /// The `stages` lines in their order.
-    pub stages: Seq<Stages>,
+    pub stages: Seq<SizesLine>,
     /// The sessions in their order, each with its commands so far.
     pub sessions: Seq<SessionPlan>,
     /// How many commands all sessions have together.
@@ -113,7 +113,7 @@ impl Progress {
         if is_given(&self.stages, dc) {
             return Err(ReadFault::Bad(Cause::GivenTwice));
         }
-        self.stages.push(Stages { dc, sizes })?;
+        self.stages.push(SizesLine { dc, sizes })?;
         Ok(())
     }
 
@@ -380,14 +380,14 @@ fn read_sizes(words: &mut Words<'_>) -> Result<Sizes, Cause>
 }
 
 // Whether a line has given the sizes of a datacentre.
-fn is_given(stages: &Seq<Stages>, dc: DcId) -> bool
+fn is_given(stages: &Seq<SizesLine>, dc: DcId) -> bool
     ensures { result ≡ is_given stages.now dc }
 {
     stages.iter().any(|given| given.dc == dc)
 }
 
 // The sizes of a datacentre.
-fn sizes_given(stages: &Seq<Stages>, number: u32) -> Sizes
+fn sizes_given(stages: &Seq<SizesLine>, number: u32) -> Sizes
     ensures { result ≡ sizes_given stages.now number }
 {
     match given_at(stages.as_slice(), number) {
@@ -397,7 +397,7 @@ fn sizes_given(stages: &Seq<Stages>, number: u32) -> Sizes
 }
 
 // The first line that gives the sizes of a datacentre.
-fn given_at(stages: &[Stages], number: u32) -> Option<Stages>
+fn given_at(stages: &[SizesLine], number: u32) -> Option<SizesLine>
     ensures { result ≡ find (λ given. given.dc == number) stages.now }
 {
     for given in stages {

@@ -29,18 +29,18 @@ pub record IsNoneAbove (held : List Stocked) (lid : ℕ) : Type 0 where
   pub each : (x : Stocked) → Contains held x → x.lid ≤ lid
 
 -- the record at the place lid
-abbrev pub record_at : List Stocked → ℕ → Option Record
-record_at held lid = option_map (λ x. x.rec) (find (λ x. x.lid == lid) held)
+abbrev pub record_placed : List Stocked → ℕ → Option Record
+record_placed held lid = option_map (λ x. x.rec) (find (λ x. x.lid == lid) held)
 
 -- the records, in the order of their places
 abbrev pub records_in : List Stocked → List Record
 records_in held = map (λ x. x.rec) held
 
 -- the records of a list at the places from n on
-abbrev pub placed_from : ℕ → List Record → List Stocked
-placed_from n [] = []
-placed_from n (r ∷ rs) = record { lid = n; rec = r } ∷ placed_from (suc n) rs
+abbrev pub stocked_from : ℕ → List Record → List Stocked
+stocked_from n [] = []
+stocked_from n (r ∷ rs) = record { lid = n; rec = r } ∷ stocked_from (suc n) rs
 
-pub placed_rise : (n low : ℕ) (records : List Record) → low < n → IsRisingFrom low (placed_from n records)
+pub placed_rise : (n low : ℕ) (records : List Record) → low < n → IsRisingFrom low (stocked_from n records)
 placed_rise n low [] past = tt
 placed_rise n low (r ∷ rs) past = (past, placed_rise (suc n) n rs (omega arith))

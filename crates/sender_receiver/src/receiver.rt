@@ -3,7 +3,7 @@
 ghost use Rattle.std.specs.Prelude.{◌≡◌, ◌≤◌, IfOk, IfErr, MatchResult};
 ghost use Rattle.record_codec.specs.declared.fault.DecodeFault.TheVariants.{NoMemory as OutOfMemory};
 ghost use Rattle.record_codec.specs.declared.message.Message.{Message as MessageValue};
-ghost use Rattle.record_codec.specs.Starts.{IsRefused};
+ghost use Rattle.record_codec.specs.Starts.{IsRefusedBytes};
 ghost use Rattle.record_codec.specs.Wire.{IsMessageText, SpellsMessage};
 ghost use Rattle.cz_base.specs.declared.limits.TheConstants.{DATACENTRES};
 
@@ -22,7 +22,7 @@ pub fn receive(alloc: Global, bytes: &[u8], dcs: u32) -> Result<Message, DecodeF
     ensures only { (message : MessageValue) → SpellsMessage dcs bytes.now message → MatchResult result (λ found. found ≡ message) (λ fault. fault ≡ OutOfMemory) }
 
     // Where nothing is, it is told how far the bytes begin some message.
-    ensures refused { IfErr result (IsRefused (IsMessageText dcs) bytes.now) }
+    ensures refused { IfErr result (IsRefusedBytes (IsMessageText dcs) bytes.now) }
 {
     decode_message(alloc, bytes, dcs)
 }

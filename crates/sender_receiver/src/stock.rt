@@ -2,7 +2,7 @@
 
 ghost use Rattle.std.specs.Prelude.{◌≡◌, List, IsSome, Some};
 ghost use Rattle.std.specs.Option.{option_map};
-ghost use Rattle.sender_receiver.specs.Stocks.{Stocked, IsRisingFrom, place_after, record_at};
+ghost use Rattle.sender_receiver.specs.Stocks.{Stocked, IsRisingFrom, place_after, record_placed};
 ghost use Rattle.sender_receiver.specs.Choosing.{is_new_above, next_new};
 
 use crate::choosing::is_news;
@@ -20,8 +20,8 @@ pub trait Stock {
 
     /// The record at the place `lid`, which is there.
     fn rec(&self, lid: Lid) -> &Record
-        requires { IsSome (record_at (held self.now) lid) }
-        ensures { record_at (held self.now) lid ≡ Some result.now };
+        requires { IsSome (record_placed (held self.now) lid) }
+        ensures { record_placed (held self.now) lid ≡ Some result.now };
 
     /// The first record above the place `lid` that is of this host and above the number that is known,
     /// and its place; or `None` exactly where there is none.
@@ -34,10 +34,10 @@ pub trait Stock {
 
 /// A list of records as a stock: its first record stands at place 1, and so on.
 impl Stock for Seq<Record> {
-    ghost use Rattle.sender_receiver.specs.Stocks.{placed_from, placed_rise};
+    ghost use Rattle.sender_receiver.specs.Stocks.{stocked_from, placed_rise};
     ghost use Rattle.std.proofs.Common.{arith};
 
-    ghost held = { placed_from 1 };
+    ghost held = { stocked_from 1 };
 
     ghost rising = { λ records. placed_rise 1 0 records (Prim.omega arith) };
 

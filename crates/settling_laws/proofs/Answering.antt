@@ -23,7 +23,7 @@ use Rattle.stage_world.specs.MoreTurns.{home_of}
 use Rattle.stage_world.specs.ClientTurns.{top_for}
 use Rattle.stage_world.specs.Settling.{clients, local_round, is_unanswered, has_unanswered}
 use Rattle.tag_indexer.proofs.TaggedLemmas.{find_tells}
-use Rattle.settling_laws.specs.Rounds.{IsAllTold, work_of, left_to, left_at}
+use Rattle.settling_laws.specs.Rounds.{IsAllTold, work_of, left_to, work_at}
 use Rattle.settling_laws.proofs.Live.{IsLive, turned, walked, stands_at}
 use Rattle.settling_laws.proofs.Walks.{Makes, makes_none, makes_more, makes_append, makes_turn}
 use Rattle.settling_laws.proofs.Progress.{Moves, moves_later, moves_still, moved_less, drop_next}
@@ -204,11 +204,11 @@ sum_fewer f (x ∷ xs) (y ∷ ys) e (suc i) same each inside less =
     omega (arith, each 0 (omega arith), sum_fewer f xs ys e i (omega (arith, same)) (λ k within. each (suc k) (omega (arith, within))) (omega (arith, inside)) less, sum_by-cons f x xs, sum_by-cons f y ys)
 
 -- No round raises what is left.
-pub round_no_more : (load : Workload) (d : ℕ) (z y : Datacentre) → IsLive load d z → IsInRound load d z y → left_at y ≤ left_at z
+pub round_no_more : (load : Workload) (d : ℕ) (z y : Datacentre) → IsLive load d z → IsInRound load d z y → work_at y ≤ work_at z
 round_no_more load d z y l h = sum_less left_to z.sessions y.sessions no_session (sessions_stay load d z l y h) (λ k within. (h.goes.sessions k).less)
 
 -- A round where all is told lowers what is left, if a session waits.
-pub round_fewer : (load : Workload) (d : ℕ) (z : Datacentre) → IsLive load d z → IsAllTold d z → has_unanswered z ≡ true → left_at (walked d z (local_round d z)) < left_at z
+pub round_fewer : (load : Workload) (d : ℕ) (z : Datacentre) → IsLive load d z → IsAllTold d z → has_unanswered z ≡ true → work_at (walked d z (local_round d z)) < work_at z
 round_fewer load d z l told some =
     let y : Datacentre = walked d z (local_round d z) in
     let round : IsAnsweringRound load d z y = answering_round load d z l told in

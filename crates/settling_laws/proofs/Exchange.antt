@@ -22,7 +22,7 @@ use Rattle.stage_world.specs.MoreTurns.{message_of, names_of, stock_of}
 use Rattle.stage_world.specs.Whole.{datacentre_at}
 use Rattle.abstract_log.specs.Turns.{IsStep}
 use Rattle.stage_world.specs.Schedules.{after_steps}
-use Rattle.stage_world.specs.Settling.{Errand, is_due, sent_and_delivered, errand_turns, exchange}
+use Rattle.stage_world.specs.Settling.{Errand, has_errand, sent_and_delivered, errand_turns, exchange}
 use Rattle.stage_world.proofs.ListLemmas.{Contains-cases, Contains-head, Contains-tail}
 use Rattle.settling_laws.specs.Rounds.{IsStanding}
 use Rattle.settling_laws.proofs.Rounds.{after_steps-append}
@@ -149,7 +149,7 @@ module _ (load : Workload) (z : Stages) (h : IsStanding load z) (x : Errand) (go
         ];
       }
 
-  idle_run : is_due z x ≡ false → IsRun z []
+  idle_run : has_errand z x ≡ false → IsRun z []
   idle_run idle =
       let parts = or_parts (eqb x.sender 0) (ltb 0 (length m.records)) idle in
       record {
@@ -164,7 +164,7 @@ module _ (load : Workload) (z : Stages) (h : IsStanding load z) (x : Errand) (go
       }
 
   pub errand_run : IsRun (after_steps load z (errand_turns load z x)) (errand_turns load z x)
-  errand_run = cond_both (is_due z x) (sent_and_delivered load z x) [] (λ ts. IsRun (after_steps load z ts) ts) (λ _. due_run) idle_run
+  errand_run = cond_both (has_errand z x) (sent_and_delivered load z x) [] (λ ts. IsRun (after_steps load z ts) ts) (λ _. due_run) idle_run
 
 -- What the errands of a list leave, one after another.
 pub record IsExchanged (load : Workload) (z : Stages) (h : IsStanding load z) (xs : List Errand) (new : Stages) (turns : List Step) : Type 0 where

@@ -12,7 +12,7 @@ use Rattle.toid_filter.specs.Filters.{FilterState, filter_at, no_filter}
 use Rattle.stage_world.specs.Stages.{Datacentre, Session, batcher_at}
 use Rattle.stage_world.specs.StandsFor.{IsAt, IsAsFar}
 use Rattle.stage_world.specs.Turns.{flush_turn, flushed, pass_turn, passed_on}
-use Rattle.stage_world.specs.Settling.{clients, flushes, passes}
+use Rattle.stage_world.specs.Settling.{clients, flushes, pass_lines}
 use Rattle.settling_laws.proofs.Live.{IsTurnAt, IsLive, turned, walked, stands_at}
 use Rattle.settling_laws.proofs.Walks.{Makes, Some_below, makes_numbered, makes_turn}
 use Rattle.settling_laws.proofs.ClientTurns.{client_turns}
@@ -111,15 +111,15 @@ module _ (load : Workload) (d : ℕ) (z : Datacentre) where
         (λ y f h is. subst (Handed f) (sym (pass_is y i h within)) (subst (λ j. (get_or (set y.filters i (record (filter_at y.filters i) { out = [] })) j no_filter).out ≡ []) (sym is)
         (at_put (λ (x : FilterState). x.out ≡ []) y.filters i (record (filter_at y.filters i) { out = [] }) no_filter refl refl)))
 
-    all_passed : Makes d IsFlushed Handed (Some_below d IsFlushed Handed (λ i f. f ≡ i) (length z.filters)) (passes d z)
+    all_passed : Makes d IsFlushed Handed (Some_below d IsFlushed Handed (λ i f. f ≡ i) (length z.filters)) (pass_lines d z)
     all_passed = makes_numbered d IsFlushed Handed (λ i f. f ≡ i) (λ f. Pass d f (queue_of f)) (length z.filters) pass_one
 
-    pub passes_empty : (y : Datacentre) → IsWithToken load d z y → AreFlushed y → IsWithToken load d z (walked d y (passes d z)) × AreFlushed (walked d y (passes d z)) × HavePassedOn (walked d y (passes d z))
+    pub passes_empty : (y : Datacentre) → IsWithToken load d z y → AreFlushed y → IsWithToken load d z (walked d y (pass_lines d z)) × AreFlushed (walked d y (pass_lines d z)) × HavePassedOn (walked d y (pass_lines d z))
     passes_empty y h flat =
         let before : IsFlushed y = record { token = h; batchers = flat } in
-        let after : IsFlushed (walked d y (passes d z)) = all_passed.stays y before in (
+        let after : IsFlushed (walked d y (pass_lines d z)) = all_passed.stays y before in (
           after.token,
           after.batchers,
-          All-from_get_or (λ (f : FilterState). f.out ≡ []) (walked d y (passes d z)).filters no_filter
-              (λ i within. all_passed.makes y i before (i, omega (arith, within, filters_stay load d z (walked d y (passes d z)) after.token.round), refl)),
+          All-from_get_or (λ (f : FilterState). f.out ≡ []) (walked d y (pass_lines d z)).filters no_filter
+              (λ i within. all_passed.makes y i before (i, omega (arith, within, filters_stay load d z (walked d y (pass_lines d z)) after.token.round), refl)),
         )

@@ -10,7 +10,7 @@ use Rattle.stage_world.specs.Stages.{Datacentre, Stages, sizes_of}
 use Rattle.stage_world.specs.Opening.{numbered}
 use Rattle.stage_world.specs.Whole.{datacentre_at}
 use Rattle.abstract_log.specs.Turns.{IsStep}
-use Rattle.stage_world.specs.Settling.{below, clients, flushes, passes, ring, places, gossips, posts, local_round}
+use Rattle.stage_world.specs.Settling.{below, clients, flushes, pass_lines, ring, places, gossips, posts, local_round}
 use Rattle.settling_laws.specs.Rounds.{HasSameMembers, IsRounded, IsStanding, IsSettledByRound}
 use Rattle.settling_laws.proofs.Live.{IsTurnAt, IsLive, IsWalk, turned, walked, walked-append, walk, turn_good, in_stages}
 use Rattle.stage_world.proofs.OpeningLemmas.{All-numbered}
@@ -27,12 +27,12 @@ use Rattle.settling_laws.proofs.Posting.{posts_cover, learn_tells}
 pub all_turns : (load : Workload) (d : ℕ) (z : Datacentre) → IsLive load d z → All (IsTurnAt load d) (local_round d z)
 all_turns load d z l =
     let P : Step → Type 0 = IsTurnAt load d in
-    All-append P (clients z ++ flushes d z ++ passes d z ++ ring d z ++ places d z ++ gossips d z ++ posts d z) (Learn d ∷ [])
-    (All-append P (clients z ++ flushes d z ++ passes d z ++ ring d z ++ places d z ++ gossips d z) (posts d z)
-    (All-append P (clients z ++ flushes d z ++ passes d z ++ ring d z ++ places d z) (gossips d z)
-    (All-append P (clients z ++ flushes d z ++ passes d z ++ ring d z) (places d z)
-    (All-append P (clients z ++ flushes d z ++ passes d z) (ring d z)
-    (All-append P (clients z ++ flushes d z) (passes d z)
+    All-append P (clients z ++ flushes d z ++ pass_lines d z ++ ring d z ++ places d z ++ gossips d z ++ posts d z) (Learn d ∷ [])
+    (All-append P (clients z ++ flushes d z ++ pass_lines d z ++ ring d z ++ places d z ++ gossips d z) (posts d z)
+    (All-append P (clients z ++ flushes d z ++ pass_lines d z ++ ring d z ++ places d z) (gossips d z)
+    (All-append P (clients z ++ flushes d z ++ pass_lines d z ++ ring d z) (places d z)
+    (All-append P (clients z ++ flushes d z ++ pass_lines d z) (ring d z)
+    (All-append P (clients z ++ flushes d z) (pass_lines d z)
     (All-append P (clients z) (flushes d z)
     (All-weaker (IsClientOf load d) P (λ t is. client_at load d t is) (clients z) (all_clients load d z l))
     (All-numbered P (Flush d) (length z.batchers) (λ i. refl)))
@@ -45,7 +45,7 @@ all_turns load d z l =
 
 -- the datacentre after the turns behind those of the clients
 abbrev pub after_rest : ℕ → Datacentre → Datacentre → Datacentre
-after_rest d z y = turned d (walked d (walked d (walked d (walked d (walked d (walked d y (flushes d z)) (passes d z)) (ring d z)) (places d z)) (gossips d z)) (posts d z)) (Learn d)
+after_rest d z y = turned d (walked d (walked d (walked d (walked d (walked d (walked d y (flushes d z)) (pass_lines d z)) (ring d z)) (places d z)) (gossips d z)) (posts d z)) (Learn d)
 
 -- the same by sizes and the token's place alone
 abbrev rest_by : ℕ → Sizes → ℕ → Datacentre → Datacentre
@@ -63,12 +63,12 @@ rest_same d z y v sizes at = ap₂ (λ s a. rest_by d s a v) sizes at
 pub round_is : (d : ℕ) (z : Datacentre) → walked d z (local_round d z) ≡ after_rest d z (walked d z (clients z))
 round_is d z =
     let flushed = walked-append d (clients z) (flushes d z) z in
-    let passed = walked-append d (clients z ++ flushes d z) (passes d z) z ∙ ap (λ v. walked d v (passes d z)) flushed in
-    let stamped = walked-append d (clients z ++ flushes d z ++ passes d z) (ring d z) z ∙ ap (λ v. walked d v (ring d z)) passed in
-    let placed = walked-append d (clients z ++ flushes d z ++ passes d z ++ ring d z) (places d z) z ∙ ap (λ v. walked d v (places d z)) stamped in
-    let told = walked-append d (clients z ++ flushes d z ++ passes d z ++ ring d z ++ places d z) (gossips d z) z ∙ ap (λ v. walked d v (gossips d z)) placed in
-    let covered = walked-append d (clients z ++ flushes d z ++ passes d z ++ ring d z ++ places d z ++ gossips d z) (posts d z) z ∙ ap (λ v. walked d v (posts d z)) told in
-    walked-append d (clients z ++ flushes d z ++ passes d z ++ ring d z ++ places d z ++ gossips d z ++ posts d z) (Learn d ∷ []) z ∙ ap (λ v. turned d v (Learn d)) covered
+    let passed = walked-append d (clients z ++ flushes d z) (pass_lines d z) z ∙ ap (λ v. walked d v (pass_lines d z)) flushed in
+    let stamped = walked-append d (clients z ++ flushes d z ++ pass_lines d z) (ring d z) z ∙ ap (λ v. walked d v (ring d z)) passed in
+    let placed = walked-append d (clients z ++ flushes d z ++ pass_lines d z ++ ring d z) (places d z) z ∙ ap (λ v. walked d v (places d z)) stamped in
+    let told = walked-append d (clients z ++ flushes d z ++ pass_lines d z ++ ring d z ++ places d z) (gossips d z) z ∙ ap (λ v. walked d v (gossips d z)) placed in
+    let covered = walked-append d (clients z ++ flushes d z ++ pass_lines d z ++ ring d z ++ places d z ++ gossips d z) (posts d z) z ∙ ap (λ v. walked d v (posts d z)) told in
+    walked-append d (clients z ++ flushes d z ++ pass_lines d z ++ ring d z ++ places d z ++ gossips d z ++ posts d z) (Learn d ∷ []) z ∙ ap (λ v. turned d v (Learn d)) covered
 
 -- What a local round of z leaves: it is a round from z, and the datacentre is rounded.
 pub record IsRoundOf (load : Workload) (d : ℕ) (z y : Datacentre) : Type 0 where
@@ -80,7 +80,7 @@ pub rest_rounds : (load : Workload) (d : ℕ) (z y : Datacentre) → IsLive load
 rest_rounds load d z y l h =
     let a : Datacentre = walked d y (flushes d z) in
     let on_a = flushes_empty load d z y h in
-    let b : Datacentre = walked d a (passes d z) in
+    let b : Datacentre = walked d a (pass_lines d z) in
     let on_b = passes_empty load d z l a on_a.0 on_a.1 in
     let c : Datacentre = walked d b (ring d z) in
     let on_c = ring_drains load d z l b on_b.0 on_b.1 on_b.2 in

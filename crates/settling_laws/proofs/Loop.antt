@@ -13,7 +13,7 @@ use Rattle.abstract_log.specs.Turns.{IsStep}
 use Rattle.stage_world.specs.Schedules.{after_steps}
 use Rattle.stage_world.specs.Settling.{has_unanswered, is_answering, answering_rounds, after_passes, turns_of_passes}
 use Rattle.settling_laws.specs.Ending.{AreQuiet}
-use Rattle.settling_laws.specs.Rounds.{HasSameMembers, IsRounded, IsStanding, left_at, left_in, EndsAnswering}
+use Rattle.settling_laws.specs.Rounds.{HasSameMembers, IsRounded, IsStanding, work_at, left_in, EndsAnswering}
 use Rattle.settling_laws.proofs.Live.{IsLive}
 use Rattle.settling_laws.proofs.Members.{same_members, members_both}
 use Rattle.settling_laws.proofs.LocalRound.{live_at, round_rounds}
@@ -62,12 +62,12 @@ module _ (load : Workload) (z : Stages) (h : IsStanding load z) where
     ]
   ]
 
-  no_more_at : (d : ℕ) → d < length z.datacentres → left_at (datacentre_at new d) ≤ left_at (datacentre_at z d)
+  no_more_at : (d : ℕ) → d < length z.datacentres → work_at (datacentre_at new d) ≤ work_at (datacentre_at z d)
   no_more_at d within = elim (cases_Bool (test d)) [
     | inl some ↦
         let l : IsLive load d (datacentre_at z d) = live d (omega (arith, within, size)) in
-        omega (arith, ap left_at (pass_is.done d within some), round_no_more load d (datacentre_at z d) (rounded_at z d) l (round_rounds load d (datacentre_at z d) l).round)
-    | inr none ↦ omega (arith, ap left_at (pass_is.still d (λ _. none)))
+        omega (arith, ap work_at (pass_is.done d within some), round_no_more load d (datacentre_at z d) (rounded_at z d) l (round_rounds load d (datacentre_at z d) l).round)
+    | inr none ↦ omega (arith, ap work_at (pass_is.still d (λ _. none)))
   ]
 
   ready_after : AreReady load new
@@ -84,8 +84,8 @@ module _ (load : Workload) (z : Stages) (h : IsStanding load z) where
       let is : datacentre_at z d ≡ found.0 = get_or_default z.datacentres d nowhere_at found.0 inside ∙ found.1.2 in
       let waits : test d ≡ true = ap has_unanswered is ∙ found.2 in
       let within : d < load.dcs = omega (arith, inside, size) in
-      sum_fewer left_at z.datacentres new.datacentres nowhere_at d pass_is.datacentres no_more_at inside
-      (omega (arith, ap left_at (pass_is.done d inside waits), round_fewer load d (datacentre_at z d) (live d within) (ready d within waits).told waits))
+      sum_fewer work_at z.datacentres new.datacentres nowhere_at d pass_is.datacentres no_more_at inside
+      (omega (arith, ap work_at (pass_is.done d inside waits), round_fewer load d (datacentre_at z d) (live d within) (ready d within waits).told waits))
 
   one_pass : IsPass load z new
   one_pass = record {
@@ -93,7 +93,7 @@ module _ (load : Workload) (z : Stages) (h : IsStanding load z) where
     datacentres = pass_is.datacentres;
     links = pass_is.links;
     members = members_at;
-    no_more = sum_less left_at z.datacentres new.datacentres nowhere_at pass_is.datacentres no_more_at;
+    no_more = sum_less work_at z.datacentres new.datacentres nowhere_at pass_is.datacentres no_more_at;
     ready = ready_after;
     fewer = fewer_after;
   }

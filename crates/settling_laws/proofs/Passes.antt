@@ -12,7 +12,7 @@ use Rattle.stage_world.specs.Stages.{Datacentre, Stages}
 use Rattle.stage_world.specs.MoreTurns.{message_of, received}
 use Rattle.stage_world.specs.Whole.{IsTold, datacentre_at, link_at, nowhere_at}
 use Rattle.stage_world.specs.Schedules.{after_steps}
-use Rattle.stage_world.specs.Settling.{Errand, all_rounds, after_passes, answering_rounds, errand_turns, errands, exchange, exchange_turns, has_unanswered, is_answering, is_due, is_unfinished, sent_and_delivered, telling_rounds, IsLoop}
+use Rattle.stage_world.specs.Settling.{Errand, all_rounds, after_passes, answering_rounds, errand_turns, errands, exchange, exchange_turns, has_unanswered, is_answering, has_errand, is_unfinished, sent_and_delivered, telling_rounds, IsLoop}
 use Rattle.settling_laws.specs.Rounds.{IsStanding}
 use Rattle.settling_laws.proofs.Rounds.{AreRoundsOf, after_steps-append, rounded_at, rounds_are}
 use Rattle.settling_laws.proofs.Errands.{errand_datacentres}
@@ -143,17 +143,17 @@ module _ (load : Workload) where
 
   errand_same : (z y : Stages) (hz : IsStanding load z) (hy : IsStanding load y) (x : Errand) → z.datacentres ≡ y.datacentres → IsErrand load z x → After z (errand_turns load z x) ≡ After y (errand_turns load y x)
   errand_same z y hz hy x same good =
-      let due : is_due z x ≡ is_due y x = ap (λ ds. is_due (record y { datacentres = ds }) x) same in
-      elim (cases_Bool (is_due z x)) [
+      let due : has_errand z x ≡ has_errand y x = ap (λ ds. has_errand (record y { datacentres = ds }) x) same in
+      elim (cases_Bool (has_errand z x)) [
         | inr idle ↦
-            ap (After z) (cond-false (is_due z x) (sent_and_delivered load z x) [] idle) ∙ same
-            ∙ ap (After y) (sym (cond-false (is_due y x) (sent_and_delivered load y x) [] (sym due ∙ idle)))
+            ap (After z) (cond-false (has_errand z x) (sent_and_delivered load z x) [] idle) ∙ same
+            ∙ ap (After y) (sym (cond-false (has_errand y x) (sent_and_delivered load y x) [] (sym due ∙ idle)))
         | inl runs ↦
-            ap (After z) (cond-true (is_due z x) (sent_and_delivered load z x) [] runs)
+            ap (After z) (cond-true (has_errand z x) (sent_and_delivered load z x) [] runs)
             ∙ errand_datacentres load z hz x.from x.sender x.to good.from good.to good.apart good.sender
             ∙ ap (λ ds. set ds x.to (received (get_or ds x.to nowhere_at) 0 (message_of x.from (get_or ds x.from nowhere_at) x.sender x.to))) same
             ∙ sym (errand_datacentres load y hy x.from x.sender x.to good.from good.to good.apart (subst (λ ds. x.sender < (get_or ds x.from nowhere_at).senders) same good.sender))
-            ∙ ap (After y) (sym (cond-true (is_due y x) (sent_and_delivered load y x) [] (sym due ∙ runs)))
+            ∙ ap (After y) (sym (cond-true (has_errand y x) (sent_and_delivered load y x) [] (sym due ∙ runs)))
       ]
 
   good_there : (z y : Stages) (x : Errand) → z.datacentres ≡ y.datacentres → IsErrand load z x → IsErrand load y x

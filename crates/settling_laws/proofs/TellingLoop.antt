@@ -14,7 +14,7 @@ use Rattle.stage_world.specs.StandsFor.{StandsAt}
 use Rattle.stage_world.specs.Whole.{datacentre_at, nowhere_at}
 use Rattle.abstract_log.specs.Turns.{IsStep}
 use Rattle.stage_world.specs.Settling.{is_unanswered, has_unanswered, is_answering, is_agreed, is_unfinished, telling_rounds, after_passes, turns_of_passes}
-use Rattle.settling_laws.specs.Rounds.{IsStanding, left_to, left_at, left_in}
+use Rattle.settling_laws.specs.Rounds.{IsStanding, left_to, work_at, left_in}
 use Rattle.settling_laws.specs.Ending.{AreQuiet, EndsTelling, most_passes}
 use Rattle.settling_laws.proofs.Answering.{sum_less, left_some, left_none}
 use Rattle.settling_laws.proofs.ClientTurns.{no_session, session_at}
@@ -31,9 +31,9 @@ none_any test (x ∷ xs) none (suc k) e within = none_any test xs (or_parts (tes
 
 -- where every command is answered nothing is left
 pub no_left : (z : Stages) → is_answering z ≡ false → left_in z ≡ 0
-no_left z none = sum_none left_at z.datacentres (λ d e within. at_datacentre (get_or z.datacentres d e) (none_any has_unanswered z.datacentres none d e within))
+no_left z none = sum_none work_at z.datacentres (λ d e within. at_datacentre (get_or z.datacentres d e) (none_any has_unanswered z.datacentres none d e within))
   where
-    at_datacentre : (v : Datacentre) → has_unanswered v ≡ false → left_at v ≡ 0
+    at_datacentre : (v : Datacentre) → has_unanswered v ≡ false → work_at v ≡ 0
     at_datacentre v idle = sum_none left_to v.sessions (λ k s within.
         left_none (get_or v.sessions k s) (ltb-false (get_or v.sessions k s).standing.answered (length (get_or v.sessions k s).commands) (none_any is_unanswered v.sessions idle k s within)))
 
@@ -55,7 +55,7 @@ no_answers load z h none = at (is_answering z) refl
         let behind : x.standing.answered < length x.commands = subst (λ (y : Session). y.standing.answered < length y.commands) (sym at_k) (ltb-true some.0.standing.answered (length some.0.commands) some.2) in
         let stands : StandsAt h.world d v = stands_here load z d (omega (arith, one.1.1, dcs_of load z h)) h in
         let left : 1 ≤ left_to x = left_some h.world.workload h.world.sessions (log_of h.world d) d v.floor x (stands.clients.sessions k no_session some.1.1) behind in
-        absurd (omega (arith, none, left, get_or-le-sum_by left_to v.sessions k no_session some.1.1, get_or-le-sum_by left_at z.datacentres d nowhere_at one.1.1))
+        absurd (omega (arith, none, left, get_or-le-sum_by left_to v.sessions k no_session some.1.1, get_or-le-sum_by work_at z.datacentres d nowhere_at one.1.1))
 
 -- no log is longer than the limits allow
 total_most : (load : Workload) (z : Stages) → IsStanding load z → total z ≤ load.dcs * 16384
@@ -82,8 +82,8 @@ module _ (load : Workload) (z : Stages) (h : IsStanding load z) where
   -- what one pass keeps
   less_left : (y new : Stages) (g : IsStanding load y) (ts : List Step) → IsTelling load y g new ts → left_in new ≤ left_in y
   less_left y new g ts t =
-      let same : (d : ℕ) → left_at (datacentre_at new d) ≡ left_at (datacentre_at t.mid d) = λ d. ap left_at (t.swapped.beside.each d).rest in
-      omega (arith, t.rounded.no_more, sum_less left_at t.mid.datacentres new.datacentres nowhere_at t.swapped.beside.datacentres (λ d inside. omega (arith, same d)))
+      let same : (d : ℕ) → work_at (datacentre_at new d) ≡ work_at (datacentre_at t.mid d) = λ d. ap work_at (t.swapped.beside.each d).rest in
+      omega (arith, t.rounded.no_more, sum_less work_at t.mid.datacentres new.datacentres nowhere_at t.swapped.beside.datacentres (λ d inside. omega (arith, same d)))
 
   still_quiet : (y new : Stages) (g : IsStanding load y) (ts : List Step) → IsTelling load y g new ts → AreQuiet load y → AreQuiet load new
   still_quiet y new g ts t quiet d within = ap (λ (v : Datacentre). v.announcement) (t.swapped.beside.each d).rest ∙ (t.rounded.members d within).announcement ∙ quiet d within

@@ -24,7 +24,7 @@ use Rattle.abstract_log.specs.Turns.{IsStep}
 use Rattle.stage_world.specs.Schedules.{after_steps}
 use Rattle.stage_world.specs.Settling.{Errand, below, rounds, all_rounds, errands, exchange_turns, telling_rounds}
 use Rattle.stage_world.proofs.ListLemmas.{Contains-head}
-use Rattle.settling_laws.specs.Rounds.{HasSameMembers, IsRounded, IsStanding, left_at, left_in}
+use Rattle.settling_laws.specs.Rounds.{HasSameMembers, IsRounded, IsStanding, work_at, left_in}
 use Rattle.settling_laws.proofs.LocalRound.{IsRoundOf, live_at, round_rounds}
 use Rattle.settling_laws.proofs.Answering.{sum_less, round_no_more}
 use Rattle.settling_laws.proofs.Rounds.{AreRoundsOf, rounds_are, rounded_at, after_steps-append}
@@ -67,9 +67,9 @@ all_round load z h =
       datacentres = are.datacentres;
       rounded = λ d within. subst (IsRounded d) (sym (at d within)) (round d within).rounded;
       members = λ d within. subst (HasSameMembers (datacentre_at z d)) (sym (at d within)) (round d within).round.goes.members;
-      no_more = sum_less left_at z.datacentres new.datacentres nowhere_at are.datacentres (λ d inside.
+      no_more = sum_less work_at z.datacentres new.datacentres nowhere_at are.datacentres (λ d inside.
           let within : d < load.dcs = omega (arith, inside, dcs_of load z h) in
-          omega (arith, ap left_at (at d within), round_no_more load d (datacentre_at z d) (rounded_at z d) (live_at load d z within h) (round d within).round));
+          omega (arith, ap work_at (at d within), round_no_more load d (datacentre_at z d) (rounded_at z d) (live_at load d z within h) (round d within).round));
     }
 
 -- all of numbered things, below the number

@@ -89,11 +89,11 @@ work_of c = length (keys_of c) + 1
 abbrev pub left_to : Session → ℕ
 left_to x = sum_by work_of (drop x.standing.answered x.commands) - length x.found
 
-abbrev pub left_at : Datacentre → ℕ
-left_at z = sum_by left_to z.sessions
+abbrev pub work_at : Datacentre → ℕ
+work_at z = sum_by left_to z.sessions
 
 abbrev pub left_in : Stages → ℕ
-left_in z = sum_by left_at z.datacentres
+left_in z = sum_by work_at z.datacentres
 
 -- The rounds of answering end, after at most one pass more than there is work left; they change no members and no link.
 pub record EndsAnswering (load : Workload) (z : Stages) : Type 0 where

@@ -4,7 +4,7 @@ use Rattle.abstract_log.specs.declared.script.Outcome.{Outcome}
 use Rattle.abstract_log.specs.declared.script.Outcome.TheVariants.{Absent, Sent, Copied, EpochAdded, Member}
 use Rattle.abstract_log.specs.declared.script.Script.{Script}
 use Rattle.abstract_log.specs.declared.script.Sizes.{Sizes}
-use Rattle.abstract_log.specs.declared.script.Step.TheVariants.{Send, Copy, Announce, AddMaintainer, AddBatcher, AddQueue, AddSender, AddReceiver}
+use Rattle.abstract_log.specs.declared.script.Step.TheVariants.{Send, Copy, Announce, AddMaintainer, AddBatcher, AddQueue, AddSender, AddReceiver, Upgrade}
 use Rattle.abstract_log.specs.declared.command.Workload.{Workload}
 use Rattle.stage_world.specs.Opening.{one_of_each, numbered, opening}
 use Rattle.stage_world.specs.Schedules.{after_steps}
@@ -29,6 +29,10 @@ full_link_answers = numbered (λ i. Sent [] (i + 1) false) 64 ++ Sent [] 64 true
 -- the link once it is full of messages that say the same
 abbrev pub full_of_equals : Stages
 full_of_equals = after_steps no_commands (opening full_link_script) (replicate 64 (Send dc_b 0 dc_a))
+
+-- the same once the sender's datacentre is upgraded
+abbrev pub full_and_upgraded : Stages
+full_and_upgraded = after_steps no_commands full_of_equals (Upgrade dc_b ∷ [])
 
 -- Each stage has sixteen members at most: of sixteen additions the last finds no room. So does a filter more for a host that sixteen serve.
 abbrev pub sixteen_filters : Sizes

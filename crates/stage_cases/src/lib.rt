@@ -4,13 +4,13 @@
 #![tactic(auto)]
 
 ghost use Rattle.std.specs.Prelude.{◌≡◌, [], ◌∷◌};
-ghost use Rattle.abstract_log.specs.declared.script.Step.TheVariants.{Send};
+ghost use Rattle.abstract_log.specs.declared.script.Step.TheVariants.{Send, Upgrade};
 ghost use Rattle.abstract_log.specs.Runs.{IsRun};
 ghost use Rattle.stage_world.specs.Idle.{IsIdleTurn};
 ghost use Rattle.stage_cases.specs.Fitting.{IsInRange};
 ghost use Rattle.stage_cases.specs.Idling.{idle_answers, idle_script};
 ghost use Rattle.stage_cases.specs.Joining.{filter_answers, filter_script, join_answers, join_script};
-ghost use Rattle.stage_cases.specs.Limits.{full_link_answers, full_link_script, full_of_equals, no_commands, sixteen_answers, sixteen_script};
+ghost use Rattle.stage_cases.specs.Limits.{full_and_upgraded, full_link_answers, full_link_script, full_of_equals, no_commands, sixteen_answers, sixteen_script};
 ghost use Rattle.stage_cases.specs.Linking.{cause_answers, cause_events, cause_script, lose_answers, lose_events, lose_script, put_of_x, put_of_y, repeat_answers, repeat_events, repeat_script, told_log};
 ghost use Rattle.stage_cases.specs.Pieces.{answers_of, dc_a, dc_b, dc_c, events_in, gone_after, log_after};
 ghost use Rattle.stage_cases.specs.Reading.{asked_answers, asked_events, asked_script, behind_answers, behind_events, behind_script, collect_answers, collect_events, collect_log, collect_script, floor_answers, floor_events, floor_script, gap_answers, gap_events, gap_script};
@@ -127,9 +127,16 @@ pub fn a_full_link_loses_its_oldest()
     ensures answers { answers_of full_link_script ≡ full_link_answers }
 {}
 
-/// Where the link is full of messages that equal the new one, a send is idle: nothing is another than it was.
+/// Where the link is full of messages that equal the new one, a send is idle: nothing is another than it was. So it is where
+/// the new one is written in another form, since messages are compared and not bytes.
 pub fn a_send_that_changes_nothing_is_idle()
-    ensures { IsIdleTurn no_commands full_of_equals (Send dc_b 0 dc_a) }
+    ensures same { IsIdleTurn no_commands full_of_equals (Send dc_b 0 dc_a) }
+    ensures upgraded { IsIdleTurn no_commands full_and_upgraded (Send dc_b 0 dc_a) }
+{}
+
+/// A datacentre is upgraded once; to upgrade it again is idle.
+pub fn a_second_upgrade_is_idle()
+    ensures { IsIdleTurn no_commands full_and_upgraded (Upgrade dc_b) }
 {}
 
 /// The events of these cases are runs of the log, by the law of schedules.

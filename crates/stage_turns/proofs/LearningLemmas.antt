@@ -30,7 +30,7 @@ use Rattle.maintainer.proofs.CountLemmas.{value_at-log}
 use Rattle.maintainer.proofs.OwnLemmas.{owns_filled}
 use Rattle.stage_world.specs.Stages.{Datacentre, IsFilledIn, maintainer_at, no_maintainer, vector_at}
 use Rattle.stage_world.specs.StandsFor.{StandsAt}
-use Rattle.stage_world.specs.MoreTurns.{counts_after, counts_with, learn_events, learnt_more, learnt_row, record_kept, same_counts}
+use Rattle.stage_world.specs.MoreTurns.{counts_after, counts_with_one, learn_events, learnt_more, learnt_row, record_kept, same_counts}
 use Rattle.stage_world.proofs.FilledLemmas.{filled_within, no_record, record_at_filled}
 use Rattle.stage_world.proofs.StandsLemmas.{first_true}
 use Rattle.stage_turns.specs.Learning.{IsAtOwner, MayLearn, row_events, row_learnt}
@@ -80,7 +80,7 @@ one_if_changed d old row b start es tests changed none one =
 
 -- counting on
 
-pub length-counts_with : (row : List ℕ) (o : Option Record) → length (counts_with row o) ≡ length row
+pub length-counts_with : (row : List ℕ) (o : Option Record) → length (counts_with_one row o) ≡ length row
 length-counts_with row None = refl
 length-counts_with row (Some r) = length-set row r.host (max (get_or row r.host 0) r.toid)
 
@@ -109,10 +109,10 @@ at_owner_told dcs dcs' e e' ms ms' p same_dcs same_list same_ms at =
     subst (λ n. IsAtOwner n e' ms' p) (sym same_dcs) (subst (λ f. IsAtOwner dcs f ms' p) (sym same_list) (subst (λ xs. IsAtOwner dcs e xs p) (sym same_ms) at))
 
 -- the counts of what is left are those of the next position, and then of the rest
-pub counts_next : (ms : List (MaintainerState Record)) (row row' first : List ℕ) (from s upto p : ℕ) (o : Option Record) → s < upto → p ≡ s + 1 → o ≡ record_kept ms p → row' ≡ counts_with row o
+pub counts_next : (ms : List (MaintainerState Record)) (row row' first : List ℕ) (from s upto p : ℕ) (o : Option Record) → s < upto → p ≡ s + 1 → o ≡ record_kept ms p → row' ≡ counts_with_one row o
     → counts_after ms row s (upto - s) ≡ counts_after ms first from (upto - from) → counts_after ms row' (s + 1) (upto - (s + 1)) ≡ counts_after ms first from (upto - from)
 counts_next ms row row' first from s upto p o lt next kept new so_far =
-    ap (λ r. counts_after ms r (s + 1) (upto - (s + 1))) (new ∙ ap (counts_with row) (kept ∙ ap (record_kept ms) next))
+    ap (λ r. counts_after ms r (s + 1) (upto - (s + 1))) (new ∙ ap (counts_with_one row) (kept ∙ ap (record_kept ms) next))
     ∙ sym (ap (counts_after ms row s) (one_more s upto lt)) ∙ so_far
   where
     one_more : (a b : ℕ) → a < b → b - a ≡ suc (b - (a + 1))
@@ -130,7 +130,7 @@ kept_plain ms p = ap (value_at p) (kept_entries ms)
 pub counts_plain : (ms : List (MaintainerState Record)) (row : List ℕ) (s n : ℕ) → counts_after (map plain ms) row s n ≡ counts_after ms row s n
 counts_plain ms row s zero = refl
 counts_plain ms row s (suc n) =
-    ap (λ o. counts_after (map plain ms) (counts_with row o) (s + 1) n) (kept_plain ms (s + 1)) ∙ counts_plain ms (counts_with row (record_kept ms (s + 1))) (s + 1) n
+    ap (λ o. counts_after (map plain ms) (counts_with_one row o) (s + 1) n) (kept_plain ms (s + 1)) ∙ counts_plain ms (counts_with_one row (record_kept ms (s + 1))) (s + 1) n
 
 at_owner_plain : (dcs : ℕ) (e : EpochList) (ms : List (MaintainerState Record)) (p : ℕ) → IsAtOwner dcs e (map plain ms) p → IsAtOwner dcs e ms p
 at_owner_plain dcs e ms p at =

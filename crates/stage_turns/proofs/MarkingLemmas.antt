@@ -13,10 +13,10 @@ use Rattle.causal_deps.specs.declared.record.Item.TheVariants.{External}
 use Rattle.abstract_log.specs.declared.script.Outcome.TheVariants.{AcceptedBy, Active, Idle, LateAt}
 use Rattle.toid_filter.specs.declared.champions.Share.{Share}
 use Rattle.toid_filter.specs.declared.filter.Accept.TheVariants.{Accepted, Late}
-use Rattle.toid_filter.specs.declared.filter.Mark.{Mark}
+use Rattle.toid_filter.specs.declared.filter.AcceptedMark.{AcceptedMark}
 use Rattle.toid_filter.specs.Champions.{grown, last_share}
-use Rattle.toid_filter.specs.Filters.{Announcement, AreSound, FilterState, Fits, accept_told, accepted_by, activated, cancelled, filter_at, handed_out, is_past, mark_accepted, new_filter, no_filter}
-use Rattle.toid_filter.specs.Marks.{accepted_next, asked_next, filters_grown, grown_by, mark_of}
+use Rattle.toid_filter.specs.Filters.{Announcement, AreSound, FilterState, FitsFilter, accept_told, accepted_by, activated, cancelled, filter_at, handed_out, is_past, mark_accepted, new_filter, no_filter}
+use Rattle.toid_filter.specs.Marks.{accepted_next, asked_next, filters_grown, grown_by, mark_announced}
 use Rattle.toid_filter.proofs.MarkLemmas.{All-handed, grown_few, grown_sound}
 use Rattle.stage_marks.specs.declared.marks.NextMark.TheVariants.{Activate, Ask}
 use Rattle.stage_marks.specs.Marks.{next_told}
@@ -118,8 +118,8 @@ hosts_there m on fs sound i f low mark is =
     at : (o : Option Announcement) → on ≡ o → mark_accepted o i ≡ Some mark → mark.host < length m
     at None same none = absurd (cc)
     at (Some a) same some =
-        cond_both (ltb i a.next) (Some (mark_of a)) None (λ o. o ≡ Some mark → mark.host < length m)
-        (λ _ here. let one : mark_of a ≡ mark = same_Some (mark_of a) mark here in omega (arith, sound.host a same, ap (λ (k : Mark). k.host) one)) (λ _ none. absurd (cc)) some
+        cond_both (ltb i a.next) (Some (mark_announced a)) None (λ o. o ≡ Some mark → mark.host < length m)
+        (λ _ here. let one : mark_announced a ≡ mark = same_Some (mark_announced a) mark here in omega (arith, sound.host a same, ap (λ (k : AcceptedMark). k.host) one)) (λ _ none. absurd (cc)) some
 
 -- The next filter is asked.
 module _ (m : List (List Share)) (a : Announcement) (fs : List FilterState) (may : MayMark m (Some a) fs) (low : a.next < length fs) (z : Datacentre) (has : HasFilters z m (Some a) fs) where
@@ -194,12 +194,12 @@ module _ (m : List (List Share)) (a : Announcement) (fs : List FilterState) (may
   abbrev pub gm : List (List Share)
   gm = grown_by a m
 
-  marked_at : (i : ℕ) (f : FilterState) → i < length fs → (get_or fs i f).accepted ≡ Some (mark_of a)
-  marked_at i f low = ap (λ (x : FilterState). x.accepted) (get_or_default fs i f no_filter low) ∙ may.sound.heard i low ∙ cond-true (ltb i a.next) (Some (mark_of a)) None (lt-ltb i a.next (omega (arith, low, heard)))
+  marked_at : (i : ℕ) (f : FilterState) → i < length fs → (get_or fs i f).accepted ≡ Some (mark_announced a)
+  marked_at i f low = ap (λ (x : FilterState). x.accepted) (get_or_default fs i f no_filter low) ∙ may.sound.heard i low ∙ cond-true (ltb i a.next) (Some (mark_announced a)) None (lt-ltb i a.next (omega (arith, low, heard)))
 
   pub are_waiting : (g : List (List Share)) → g ≡ gm → AreWaiting g fs
   are_waiting g g_is i f low = (
-    (mark_of a, marked_at i f low, g_is ∙ ap (λ k. grown k a.host a.mark) (sym (may.sound.one_map i f low))),
+    (mark_announced a, marked_at i f low, g_is ∙ ap (λ k. grown k a.host a.mark) (sym (may.sound.one_map i f low))),
     hosts_there m (Some a) fs may.sound i f low,
   )
 
@@ -215,7 +215,7 @@ module _ (m : List (List Share)) (a : Announcement) (fs : List FilterState) (may
       let sound : AreSound gm None (filters_grown a m fs) = grown_sound m a fs may.sound heard in
       record {
         serving = record { one_map = sound.one_map; numbers = sound.numbers; there = sound.there; few = grown_few m a fs may.sound heard may.few };
-        of_hosts = All-handed (IsOfHosts (length gm)) gm fs (λ i f low. All-weaker (Fits (get_or fs i f)) (λ (r : Record). (r.host < length gm) × (1 ≤ r.toid))
+        of_hosts = All-handed (IsOfHosts (length gm)) gm fs (λ i f low. All-weaker (FitsFilter (get_or fs i f)) (λ (r : Record). (r.host < length gm) × (1 ≤ r.toid))
             (λ r was. (omega (arith, was.host, hosts_same, ap (length {A = List Share}) (may.sound.one_map i f low)), was.first)) (get_or fs i f).held (may.sound.each i f low).tidy.fits);
       }
 

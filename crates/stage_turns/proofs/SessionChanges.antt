@@ -16,7 +16,7 @@ use Rattle.abstract_log.specs.Commands.{draft_of, is_write}
 use Rattle.hyksos.specs.declared.next.Next.TheVariants.{Replied, Key, Below}
 use Rattle.hyksos.specs.Sessions.{SessionState, begun, is_look, next_command, next_index, reading, replied, writes}
 use Rattle.hyksos.specs.Shelves.{ShelfState, covered_for, last_at, with_pin}
-use Rattle.hyksos.specs.Turns.{Taken, behind, found_at_pin, look, reply, rest, turn_of, turn_with, turned, wait}
+use Rattle.hyksos.specs.Turns.{AfterTurn, behind, found_at_pin, look, reply, rest, session_turn, turn_with, turned, wait}
 use Rattle.stage_world.specs.Stages.{Datacentre}
 use Rattle.stage_world.specs.Idle.{TellsApart, TellsChange, apart_from_epochs}
 use Rattle.stage_turns.specs.Clients.{batchers_written, goes_on, session_changes, with_draft}
@@ -24,7 +24,7 @@ use Rattle.stage_turns.proofs.ChangeLemmas.{same_tells, tells_other, tells_same}
 
 module _ (log : List Record) (x : SessionState) where
   -- a turn with this answer that leaves this session
-  abbrev Moves : Bool → Taken → Type 0
+  abbrev Moves : Bool → AfterTurn → Type 0
   Moves b t = TellsApart (is_some (cond b None (Some (next_index x))) || goes_on (is_some x.pin) t.next) x t.session
 
   -- whether a command was begun is of no weight where one went on
@@ -91,8 +91,8 @@ module _ (log : List Record) (x : SessionState) where
         → Moves b (option_map_or (look log c m x) o (cond (ltb m.head x.standing.floor) (wait m x) (cond (ltb m.head m.floor) (record { session = begun x; shelf = m; next = Below (next_index x) m.floor }) (look log c (with_pin x.number (Some m.head) m) x m.head))))
     turn_moves c m (Some s) is looks = look_moves c m s looks (λ q same. (let one : Some q ≡ Some s = sym same ∙ is in cc))
     turn_moves c m None is looks =
-        let below : Taken = record { session = begun x; shelf = m; next = Below (next_index x) m.floor } in
-        let on : Taken = look log c (with_pin x.number (Some m.head) m) x m.head in
+        let below : AfterTurn = record { session = begun x; shelf = m; next = Below (next_index x) m.floor } in
+        let on : AfterTurn = look log c (with_pin x.number (Some m.head) m) x m.head in
         cond_both (ltb m.head x.standing.floor) (wait m x) (cond (ltb m.head m.floor) below on) (Moves b) (λ _. only_begun b opened)
         (λ _. cond_both (ltb m.head m.floor) below on (Moves b) (λ _. only_begun b opened) (λ _. look_moves c (with_pin x.number (Some m.head) m) m.head looks (λ q same. absurd (none_some q (sym is ∙ same)))))
       where
@@ -112,7 +112,7 @@ module _ (log : List Record) (x : SessionState) where
         (λ _. only_begun b opened) (λ _. went_on b (replied answer m.head x) (answered_more answer m.head))
 
   -- what is told of the turn of a session with no write
-  pub session_moves : (m : ShelfState) → writes x ≡ false → ((q : ℕ) → x.pin ≡ Some q → x.standing.begun ≡ true) → TellsApart (session_changes (is_some x.pin) (turned log m x)) x (turn_of log m x).session
+  pub session_moves : (m : ShelfState) → writes x ≡ false → ((q : ℕ) → x.pin ≡ Some q → x.standing.begun ≡ true) → TellsApart (session_changes (is_some x.pin) (turned log m x)) x (session_turn log m x).session
   session_moves m reads pinned = by_command (next_command x) reads
     where
       by_command : (o : Option Command) → option_map_or is_write o false ≡ false

@@ -34,7 +34,7 @@ use Rattle.tag_indexer.specs.Rows.{home, tagged_places}
 use Rattle.hyksos.specs.declared.next.Next.{Next}
 use Rattle.hyksos.specs.declared.next.Next.TheVariants.{Key as KeyNext, Below as BelowNext, Replied as RepliedNext}
 use Rattle.hyksos.specs.Shelves.{ShelfState, covered_for, last_at, with_pin}
-use Rattle.hyksos.specs.Turns.{Taken, behind, found_at_pin, key_turn as key_taken, last_turn as last_taken, read_turn as read_taken, reply, rest, turn_of, turn_with, turned, wait}
+use Rattle.hyksos.specs.Turns.{AfterTurn, behind, found_at_pin, key_turn as key_taken, last_turn as last_taken, read_turn as read_taken, reply, rest, session_turn, turn_with, turned, wait}
 use Rattle.hyksos.specs.Sessions.{SessionState as Session, begun, next_command, next_index, reading, replied, writes}
 use Rattle.stage_world.specs.Stages.{Datacentre, IsFilledIn, indexer_at, no_epochs, no_indexer, vector_at}
 use Rattle.stage_world.specs.Turns.{Turned, at_session, quiet, submitted}
@@ -141,7 +141,7 @@ module _ (w : World) (d : ℕ) (z : Datacentre) (h : StandsAt w d z) (m : ShelfS
     abbrev left : Session → Datacentre
     left y = record z { sessions = set ys i y }
 
-    abbrev told : Taken → Turned
+    abbrev told : AfterTurn → Turned
     told t = record { after = left t.session; outcome = outcome_of t.next; events = reply_events d x.number t.next }
 
     begun_is : x ≡ begun x
@@ -211,7 +211,7 @@ module _ (w : World) (d : ℕ) (z : Datacentre) (h : StandsAt w d z) (m : ShelfS
             same = nothing ∙ ap (λ n. map (found_at log m.head) (take n (keys_of c))) (sym (ap (λ (fs : List Found). length fs) nothing));
           }
 
-      look_is : (turn : ℕ → Turned) (taken : ℕ → Taken) (first : Taken) → ((s : ℕ) → MayLook log z.floor x c s → turn s ≡ told (taken s)) → (MayLook log z.floor x c m.head → turn m.head ≡ told first)
+      look_is : (turn : ℕ → Turned) (taken : ℕ → AfterTurn) (first : AfterTurn) → ((s : ℕ) → MayLook log z.floor x c s → turn s ≡ told (taken s)) → (MayLook log z.floor x c m.head → turn m.head ≡ told first)
           → look_turn here x m.head turn ≡ told (option_map_or taken x.pin (cond (ltb m.head x.standing.floor) (wait m x) (cond (ltb m.head m.floor) (record { session = begun x; shelf = m; next = BelowNext (next_index x) m.floor }) first)))
       look_is turn taken first same begins = by_pin x.pin refl
         where
@@ -236,7 +236,7 @@ pinned_at_head m x = with_pin x.number (Some m.head) m
 module _ (w : World) (d : ℕ) (z : Datacentre) (h : StandsAt w d z) (m : ShelfState) (covered : m.covered ≡ map (λ (i : IndexerState). head i.pair) z.indexers)
     (xs ys : List Session) (i : ℕ) (x : Session) (opened_is : x.standing.begun ≡ true) (puts : (f : Session → Session) → at_session x.number f xs ≡ set ys i (f x)) (stays : xs ≡ set ys i x)
     (fresh : x.pin ≡ None → x.found ≡ []) (low : m.floor ≡ z.floor) (within : m.head ≤ length (log_of w d)) where
-  abbrev told_all : Taken → Turned
+  abbrev told_all : AfterTurn → Turned
   told_all t = record { after = record z { sessions = set ys i t.session }; outcome = outcome_of t.next; events = reply_events d x.number t.next }
 
   keys_looked : (c : Command) (keys : List (List ℕ)) → keys_of c ≡ keys → 1 ≤ length keys → ((s : ℕ) → x.pin ≡ Some s → MayLook (log_of w d) z.floor x c s)
@@ -291,8 +291,8 @@ module _ (w : World) (d : ℕ) (z : Datacentre) (h : StandsAt w d z) (i : ℕ) (
   abbrev m : ShelfState
   m = shelf_of v lent z.indexers g
 
-  abbrev t : Taken
-  t = turn_of (log_of w d) m x
+  abbrev t : AfterTurn
+  t = session_turn (log_of w d) m x
 
   full : (q : ℕ) → 1 ≤ q → q ≤ head v → IsFilledIn z.maintainers q
   full q first below =
@@ -332,7 +332,7 @@ module _ (w : World) (d : ℕ) (z : Datacentre) (h : StandsAt w d z) (i : ℕ) (
 
   abbrev told_at : Option Command → Turned
   told_at o =
-      let u : Taken = option_map_or (turn_with (log_of w d) m x) o (rest m x) in
+      let u : AfterTurn = option_map_or (turn_with (log_of w d) m x) o (rest m x) in
       record {
         after = record z { sessions = set z.sessions i u.session };
         outcome = outcome_of u.next;
@@ -365,7 +365,7 @@ module _ (w : World) (d : ℕ) (z : Datacentre) (h : StandsAt w d z) (i : ℕ) (
         ap (λ o. option_map_or (λ draft. record { after = submitted z x.number draft; outcome = Submitted (next_index x); events = Submit x.number (next_index x) ∷ [] }) o
         (and_then (record { after = y; outcome = Submitted (next_index x); events = Submit x.number (next_index x) ∷ [] }) (λ u. open_turn d u (begun x) (head v) c))) (no_draft x.number (next_index x) x.standing.past c reads)
         ∙ ap (λ (u : Turned). record { after = u.after; outcome = u.outcome; events = Submit x.number (next_index x) ∷ u.events }) goes
-        ∙ ap (λ (u : Taken). record {
+        ∙ ap (λ (u : AfterTurn). record {
           after = record z { sessions = set z.sessions i u.session };
           outcome = outcome_of u.next;
           events = Submit x.number (next_index x) ∷ reply_events d x.number u.next;
@@ -392,7 +392,7 @@ module _ (w : World) (d : ℕ) (z : Datacentre) (h : StandsAt w d z) (i : ℕ) (
   session_is reads = by_next (next_command x) refl reads
 
 -- What is held against collection: the session's pin, and what others have.
-pub record IsHeld (low n : ℕ) (before : List (Option ℕ)) (t : Taken) : Type 0 where
+pub record IsHeld (low n : ℕ) (before : List (Option ℕ)) (t : AfterTurn) : Type 0 where
   pub number : t.session.number ≡ n
   pub floor : t.shelf.floor ≡ low
   pub pins : t.shelf.pins ≡ set before n t.session.pin
@@ -434,7 +434,7 @@ module _ (log : List Record) (m : ShelfState) (x : Session) (pin_is : get_or m.p
   held_still : (y : Session) (next : Next) → y.number ≡ x.number → y.pin ≡ x.pin → IsHeld m.floor x.number m.pins (record { session = y; shelf = m; next = next })
   held_still y next number pin = record { number = number; floor = refl; pins = pins_stay y.pin (sym pin) }
 
-  held_look : (taken : ℕ → Taken) (first : Taken) → ((s : ℕ) → x.pin ≡ Some s → IsHeld m.floor x.number m.pins (taken s)) → IsHeld m.floor x.number m.pins first
+  held_look : (taken : ℕ → AfterTurn) (first : AfterTurn) → ((s : ℕ) → x.pin ≡ Some s → IsHeld m.floor x.number m.pins (taken s)) → IsHeld m.floor x.number m.pins first
       → IsHeld m.floor x.number m.pins (option_map_or taken x.pin (cond (ltb m.head x.standing.floor) (wait m x) (cond (ltb m.head m.floor) (record { session = begun x; shelf = m; next = BelowNext (next_index x) m.floor }) first)))
   held_look taken first at_pin begins = by_pin x.pin refl
     where
@@ -465,7 +465,7 @@ module _ (log : List Record) (m : ShelfState) (x : Session) (pin_is : get_or m.p
       (held_last log m.floor m.pins x (pinned_at_head m x) m.head refl refl tag n)
 
   -- the turn of a session that does not write, and has no pin where it reads a position
-  pub session_held : writes x ≡ false → ((p : ℕ) → next_command x ≡ Some (ReadCommand p) → x.pin ≡ None) → IsHeld m.floor x.number m.pins (turn_of log m x)
+  pub session_held : writes x ≡ false → ((p : ℕ) → next_command x ≡ Some (ReadCommand p) → x.pin ≡ None) → IsHeld m.floor x.number m.pins (session_turn log m x)
   session_held reads none = by_next (next_command x) reads none
     where
       by_next : (o : Option Command) → option_map_or is_write o false ≡ false → ((p : ℕ) → o ≡ Some (ReadCommand p) → x.pin ≡ None) → IsHeld m.floor x.number m.pins (option_map_or (turn_with log m x) o (rest m x))

@@ -25,9 +25,9 @@ use Rattle.stage_world.specs.Stages.{indexer_at, no_epochs, no_indexer, vector_a
 use Rattle.stage_world.proofs.ListLemmas.{Contains-cases}
 use Rattle.stage_world.specs.MoreTurns.{record_kept}
 use Rattle.cz_base.specs.declared.memory.NoMemory.{NoMemory}
-use Rattle.hyksos.specs.declared.next.Turned.{Turned as SessionTurned}
+use Rattle.hyksos.specs.declared.next.SessionTurnDone.{SessionTurnDone as SessionTurned}
 use Rattle.hyksos.specs.Sessions.{SessionState, HasFound}
-use Rattle.hyksos.specs.Turns.{turn_of, turned}
+use Rattle.hyksos.specs.Turns.{session_turn, turned}
 use Rattle.stage_turns.specs.declared.done.TurnDone.{TurnDone}
 use Rattle.stage_turns.specs.Shelves.{ShowsLog, gone_in, shelf_of}
 use Rattle.stage_turns.specs.Clients.{IsSessionTurn, events_of, outcome_of, session_changes, shelf_for}
@@ -201,8 +201,8 @@ pub client_told : (d s first : ℕ) (log : List Record) (ms : List (MaintainerSt
     → x.number ≡ s → v ≡ vector_at vs (s % first) → taken ≡ g → was_pinned ≡ is_some x.pin
     → ShowsLog (vector_at vs (s % first)) ms is g log → HasFound log x
     → (ShowsLog v ms is taken log → HasFound log x → t ≡ turned log (shelf_of v ms is taken) x)
-    → (ShowsLog v ms is taken log → HasFound log x → new ≡ (turn_of log (shelf_of v ms is taken) x).session)
-    → (ShowsLog v ms is taken log → HasFound log x → shelf_of v' ms' is' after ≡ (turn_of log (shelf_of v ms is taken) x).shelf)
+    → (ShowsLog v ms is taken log → HasFound log x → new ≡ (session_turn log (shelf_of v ms is taken) x).session)
+    → (ShowsLog v ms is taken log → HasFound log x → shelf_of v' ms' is' after ≡ (session_turn log (shelf_of v ms is taken) x).shelf)
     → IfOk result (λ done. done.outcome ≡ outcome_of t.next) → IfOk result (λ done. done.events ≡ events_of d s t) → IfOk result (λ done. done.changed ≡ session_changes was_pinned t)
     → IfOk result (λ done. IsSessionTurn d log (shelf_for s first ms vs is g) x done new after)
 client_told d s first log ms vs is g taken after v v' ms' is' x new was_pinned t (Err fault) number serving same pinned shows found tells leaves keeps outcome events changed = tt
@@ -211,8 +211,8 @@ client_told d s first log ms vs is g taken after v v' ms' is' x new was_pinned t
     let m : shelf_of v ms is taken ≡ shelf_for s first ms vs is g = ap (λ u. shelf_of u ms is taken) serving ∙ ap (λ f. shelf_of (vector_at vs (s % first)) ms is f) same in
     let told : t ≡ turned log (shelf_for s first ms vs is g) x = tells here found ∙ ap (λ y. turned log y x) m in
     record {
-      session = leaves here found ∙ ap (λ y. (turn_of log y x).session) m;
-      floor = ap (λ (y : ShelfState). record { floor = y.floor; pins = y.pins }) (keeps here found) ∙ ap (λ y. record { floor = (turn_of log y x).shelf.floor; pins = (turn_of log y x).shelf.pins }) m;
+      session = leaves here found ∙ ap (λ y. (session_turn log y x).session) m;
+      floor = ap (λ (y : ShelfState). record { floor = y.floor; pins = y.pins }) (keeps here found) ∙ ap (λ y. record { floor = (session_turn log y x).shelf.floor; pins = (session_turn log y x).shelf.pins }) m;
       outcome = outcome ∙ ap (λ u. outcome_of u.next) told;
       events = events ∙ ap (λ n. events_of d n t) (sym number) ∙ ap (events_of d x.number) told;
       changed = changed ∙ ap (λ b. session_changes b t) pinned ∙ ap (session_changes (is_some x.pin)) told;

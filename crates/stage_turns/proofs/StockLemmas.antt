@@ -12,7 +12,7 @@ use Rattle.causal_deps.specs.declared.record.Record.{Record}
 use Rattle.maintainer.specs.declared.slot.Slot.{Slot}
 use Rattle.maintainer.specs.Maintainers.{AreRising, MaintainerState, times_in}
 use Rattle.maintainer.proofs.CountLemmas.{rising-tail}
-use Rattle.sender_receiver.specs.Stocks.{Stocked, IsRisingFrom, record_at}
+use Rattle.sender_receiver.specs.Stocks.{Stocked, IsRisingFrom, record_placed}
 use Rattle.stage_world.specs.Stages.{filled}
 use Rattle.stage_world.specs.MoreTurns.{sorted_in, stock_of, stocked}
 use Rattle.stage_world.proofs.ListLemmas.{Contains-head, Contains-tail, Contains-cases}
@@ -200,9 +200,9 @@ module _ (test : Stocked → Bool) where
 -- what is at a place is the first above the place before it
 pub record IsAtPlace (held : List Stocked) (low p : ℕ) : Type 0 where
   pub past : low < p
-  pub is : record_at held p ≡ option_map (λ (x : Stocked). x.rec) (find (λ (x : Stocked). ltb (p - 1) x.lid) held)
+  pub is : record_placed held p ≡ option_map (λ (x : Stocked). x.rec) (find (λ (x : Stocked). ltb (p - 1) x.lid) held)
 
-pub at_place : (held : List Stocked) (low p : ℕ) → IsRisingFrom low held → IsSome (record_at held p) → IsAtPlace held low p
+pub at_place : (held : List Stocked) (low p : ℕ) → IsRisingFrom low held → IsSome (record_placed held p) → IsAtPlace held low p
 at_place [] low p rising some = absurd (cc)
 at_place (y ∷ ys) low p rising some = elim (cases_eq y.lid p) [
   | inl same ↦
@@ -213,7 +213,7 @@ at_place (y ∷ ys) low p rising some = elim (cases_eq y.lid p) [
             ∙ sym (cond-true (ltb (p - 1) y.lid) (Some y) (find (λ (x : Stocked). ltb (p - 1) x.lid) ys) (lt-ltb (p - 1) y.lid before)));
       }
   | inr other ↦
-      let on : record_at (y ∷ ys) p ≡ record_at ys p = ap (option_map (λ (x : Stocked). x.rec)) (cond-false (eqb y.lid p) (Some y) (find (λ (x : Stocked). eqb x.lid p) ys) (ne_eqb y.lid p other)) in
+      let on : record_placed (y ∷ ys) p ≡ record_placed ys p = ap (option_map (λ (x : Stocked). x.rec)) (cond-false (eqb y.lid p) (Some y) (find (λ (x : Stocked). eqb x.lid p) ys) (ne_eqb y.lid p other)) in
       let rest : IsAtPlace ys y.lid p = at_place ys y.lid p rising.1 (subst (λ (o : Option Record). IsSome o) on some) in
       let behind : y.lid ≤ p - 1 = omega (arith, rest.past) in
       record {
@@ -222,13 +222,13 @@ at_place (y ∷ ys) low p rising some = elim (cases_eq y.lid p) [
       }
 ]
 
-pub not_missing : (held : List Stocked) (p : ℕ) (o : Option (Slot Record)) → IsRisingFrom 0 held → IsSome (record_at held p) → option_map stocked o ≡ find (λ (x : Stocked). ltb (p - 1) x.lid) held → o ≡ None → ⊥
+pub not_missing : (held : List Stocked) (p : ℕ) (o : Option (Slot Record)) → IsRisingFrom 0 held → IsSome (record_placed held p) → option_map stocked o ≡ find (λ (x : Stocked). ltb (p - 1) x.lid) held → o ≡ None → ⊥
 not_missing held p o rising some next none =
-    let is : record_at held p ≡ None = (at_place held 0 p rising some).is ∙ ap (option_map (λ (x : Stocked). x.rec)) (sym next ∙ ap (option_map stocked) none) in
+    let is : record_placed held p ≡ None = (at_place held 0 p rising some).is ∙ ap (option_map (λ (x : Stocked). x.rec)) (sym next ∙ ap (option_map stocked) none) in
     let bad : IsSome {T = Record} None = subst (λ (r : Option Record). IsSome r) is some in
     absurd (cc)
 
-pub read_there : (held : List Stocked) (p : ℕ) (o : Option (Slot Record)) (e : Slot Record) → IsRisingFrom 0 held → IsSome (record_at held p) → option_map stocked o ≡ find (λ (x : Stocked). ltb (p - 1) x.lid) held → o ≡ Some e
-    → record_at held p ≡ Some e.value
+pub read_there : (held : List Stocked) (p : ℕ) (o : Option (Slot Record)) (e : Slot Record) → IsRisingFrom 0 held → IsSome (record_placed held p) → option_map stocked o ≡ find (λ (x : Stocked). ltb (p - 1) x.lid) held → o ≡ Some e
+    → record_placed held p ≡ Some e.value
 read_there held p o e rising some next is =
     (at_place held 0 p rising some).is ∙ ap (option_map (λ (x : Stocked). x.rec)) (sym next ∙ ap (option_map stocked) is)

@@ -19,7 +19,7 @@ use Rattle.log_laws.proofs.Places.{All-at_place}
 use Rattle.maintainer.specs.declared.slot.Slot.{Slot}
 use Rattle.maintainer.specs.Maintainers.{IsEntryOf, MaintainerState, plain, times_filled}
 use Rattle.record_codec.specs.declared.message.Message.{Message}
-use Rattle.record_codec.specs.Wire.{FitsRecord, HasTexts, SpellsMessage, fewest_tags, message_bytes, most_body, most_tags}
+use Rattle.record_codec.specs.Wire.{FitsRecord, HasTexts, SpellsMessage, fewest_tags, most_body, most_tags}
 use Rattle.sender_receiver.specs.Sending.{message_to}
 use Rattle.sender_receiver.specs.Stocks.{Stocked, records_in}
 use Rattle.stage_world.specs.MoreTurns.{message_of, sorted_in, stock_of, stocked}
@@ -28,7 +28,7 @@ use Rattle.stage_world.specs.StandsFor.{StandsAt}
 use Rattle.stage_world.specs.Whole.{IsLogged, IsTold, StandsFor, datacentre_at, link_at}
 use Rattle.stage_world.proofs.FilledLemmas.{one_at_most}
 use Rattle.stage_turns.specs.Lent.{maintainers_seen}
-use Rattle.stage_turns.specs.Told.{IsToldBy, MayLook, MayTell, told_by}
+use Rattle.stage_turns.specs.Told.{IsToldBy, MayLook, MayTell, told_message}
 use Rattle.stage_world.proofs.StockLemmas.{All-read_by, All-sorted, read_by}
 
 -- a valid record has a spelling
@@ -67,30 +67,6 @@ valid_fits dcs r h = let tags = tags_fit r.kind r.tags h.key h.tags in record {
 
 pub valid_texts : (dcs : ℕ) (r : Record) → IsValid dcs r → HasTexts r
 valid_texts dcs r h = record { tags = h.names; body = h.body }
-
--- a message of a datacentre has one
-
-pub told_spelled : (dcs d : ℕ) (log : List Record) (table : List (List ℕ)) (m : Message) → d < dcs → ((k h : ℕ) → entry_of table k h ≤ 16384) → IsTold dcs log table d m
-    → SpellsMessage dcs (message_bytes dcs m) m
-told_spelled dcs d log table m there small h = record {
-  fits = record {
-    from = omega (arith, h.from, there);
-    square = h.square;
-    table = λ k g. omega (arith, h.known k g, small k g);
-    few = h.few;
-    records = All-weaker (IsLogged dcs log d) (FitsRecord dcs) (λ r l. valid_fits dcs r l.valid) m.records h.records;
-    senders = All-weaker (IsLogged dcs log d) (λ (r : Record). r.host ≡ m.from) (λ r l. l.host ∙ sym h.from) m.records h.records;
-  };
-  texts = All-weaker (IsLogged dcs log d) HasTexts (λ r l. valid_texts dcs r l.valid) m.records h.records;
-  spelled = refl;
-}
-
--- what is in a link has a spelling
-pub links_spelled : (w : World) (z : Stages) (d e : ℕ) → IsLawful w → StandsFor w z → d < w.workload.dcs
-    → All (λ m. SpellsMessage w.workload.dcs (message_bytes w.workload.dcs m) m) (link_at z d e)
-links_spelled w z d e lawful stands there =
-    All-weaker (IsTold w.workload.dcs (log_of w d) (table_of w d) d) (λ m. SpellsMessage w.workload.dcs (message_bytes w.workload.dcs m) m)
-    (λ m. told_spelled w.workload.dcs d (log_of w d) (table_of w d) m there (lawful.entries d)) (link_at z d e) (stands.links d e)
 
 -- A packet of a message in the link from d may be delivered at e.
 pub record MayDeliver (d : ℕ) (packet : List ℕ) (z : Datacentre) : Type 0 where
@@ -160,7 +136,7 @@ filled_kept p kept (m ∷ ms) = cond_both (kept m) (m ∷ filter kept ms) (filte
     (λ _. omega (arith, filled_kept p kept ms, sum_by-cons (times_filled p) m ms))
 
 -- what is told of them is the message of the stage world
-pub told_is : (d e k : ℕ) (z : Datacentre) (ms : List (MaintainerState Record)) → AreLent k z ms → told_by d e k z.senders ms z.table ≡ message_of d z k e
+pub told_is : (d e k : ℕ) (z : Datacentre) (ms : List (MaintainerState Record)) → AreLent k z ms → told_message d e k z.senders ms z.table ≡ message_of d z k e
 told_is d e k z ms lent =
     let same : stock_of ms k z.senders ≡ stock_of z.maintainers k z.senders =
     sym (stock_seen ms k z.senders) ∙ ap (λ (xs : List (MaintainerState Record)). stock_of xs k z.senders) lent.seen ∙ ap stock_of_entries (read_kept k z.senders lent.kept z.maintainers lent.all)

@@ -13,11 +13,11 @@ use Rattle.abstract_log.specs.declared.script.Outcome.TheVariants.{Behind, Below
 use Rattle.flstore_rounds.specs.Heads.{Pair}
 use Rattle.hyksos.specs.declared.next.Next.{Next}
 use Rattle.hyksos.specs.declared.next.Next.TheVariants.{Submitted as SubmittedNext, Replied as RepliedNext, Key as KeyNext, Waiting as WaitingNext, Unacknowledged as UnacknowledgedNext, Below as BelowNext, Behind as BehindNext, Finished as FinishedNext}
-use Rattle.hyksos.specs.declared.next.Turned.{Turned}
+use Rattle.hyksos.specs.declared.next.SessionTurnDone.{SessionTurnDone}
 pub use Rattle.hyksos.specs.Sessions.{is_unanswered, next_command, next_index, writes}
 use Rattle.hyksos.specs.Sessions.{SessionState, HasFound, draft_submitted}
 use Rattle.hyksos.specs.Shelves.{ShelfState}
-use Rattle.hyksos.specs.Turns.{turn_of, turned}
+use Rattle.hyksos.specs.Turns.{session_turn, turned}
 use Rattle.log_gc.specs.Floors.{Floored, pin_of}
 use Rattle.maintainer.specs.Maintainers.{MaintainerState}
 use Rattle.tag_indexer.specs.Indexers.{IndexerState}
@@ -74,7 +74,7 @@ reply_events d s (BelowNext k floor) = []
 reply_events d s (BehindNext k covered) = []
 reply_events d s FinishedNext = []
 
-abbrev pub events_of : ℕ → ℕ → Turned → List Event
+abbrev pub events_of : ℕ → ℕ → SessionTurnDone → List Event
 events_of d s t = begin_events s t.opened ++ reply_events d s t.next
 
 -- the command went on, of a session that had a pin or had none
@@ -89,14 +89,14 @@ goes_on was_pinned (BehindNext k covered) = not was_pinned
 goes_on was_pinned FinishedNext = false
 
 -- a command was begun, or went on
-abbrev pub session_changes : Bool → Turned → Bool
+abbrev pub session_changes : Bool → SessionTurnDone → Bool
 session_changes was_pinned t = is_some t.opened || goes_on was_pinned t.next
 
 -- What the turn of a session of datacentre d leaves of it and of the pins, and what it tells.
 pub record IsSessionTurn (d : ℕ) (log : List Record) (m : ShelfState) (x : SessionState) (done : TurnDone) (new : SessionState) (after : Floored) : Type 0 where
-  pub session : new ≡ (turn_of log m x).session
-  pub floor : after ≡ record { floor = (turn_of log m x).shelf.floor; pins = (turn_of log m x).shelf.pins }
-  pub outcome : done.outcome ≡ outcome_of (turn_of log m x).next
+  pub session : new ≡ (session_turn log m x).session
+  pub floor : after ≡ record { floor = (session_turn log m x).shelf.floor; pins = (session_turn log m x).shelf.pins }
+  pub outcome : done.outcome ≡ outcome_of (session_turn log m x).next
   pub events : done.events ≡ events_of d x.number (turned log m x)
   pub changed : done.changed ≡ session_changes (is_some x.pin) (turned log m x)
 

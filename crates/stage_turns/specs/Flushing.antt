@@ -6,7 +6,7 @@ use Rattle.causal_deps.specs.declared.record.Item.TheVariants.{Local, External}
 use Rattle.abstract_log.specs.declared.script.FlushItem.{FlushItem}
 use Rattle.toid_filter.specs.declared.champions.Share.{Share}
 use Rattle.toid_filter.specs.Champions.{champion}
-use Rattle.toid_filter.specs.Filters.{FilterState, Fits, filter_at, with_item}
+use Rattle.toid_filter.specs.Filters.{FilterState, FitsFilter, filter_at, with_item}
 use Rattle.batcher.specs.declared.Parcel.{Parcel}
 use Rattle.stage_world.specs.Turns.{name_of, way_of}
 
@@ -30,7 +30,7 @@ pub record MayFlush (map : List (List Share)) (fs : List FilterState) (items : L
 -- the filter may take the item
 abbrev pub MayTake : FilterState → Item → Type 0
 MayTake f (Local draft) = ⊤
-MayTake f (External r) = Fits f r
+MayTake f (External r) = FitsFilter f r
 
 -- the filters, once the parcel's item went to its filter
 abbrev pub taken_from : List FilterState → Parcel → List FilterState

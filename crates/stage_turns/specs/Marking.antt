@@ -3,7 +3,7 @@ use Rattle.std.specs.Prelude.{◌≡◌, ℕ, ◌<◌, ◌≤◌, if◌then◌el
 use Rattle.std.specs.Option.{ForSome}
 use Rattle.cz_base.specs.declared.limits.TheConstants.{MEMBERS}
 use Rattle.toid_filter.specs.declared.champions.Share.{Share}
-use Rattle.toid_filter.specs.declared.filter.Mark.{Mark}
+use Rattle.toid_filter.specs.declared.filter.AcceptedMark.{AcceptedMark}
 use Rattle.toid_filter.specs.Champions.{grown}
 use Rattle.toid_filter.specs.Filters.{Announcement, AreSound, FilterState, new_filter}
 use Rattle.stage_world.specs.Idle.{TellsChange}
@@ -18,7 +18,7 @@ pub record MayMark (map : List (List Share)) (on : Option Announcement) (fs : Li
 
 -- each filter has accepted the mark at which the map grew
 abbrev pub AreWaiting : List (List Share) → List FilterState → Type 0
-AreWaiting m fs = All (λ f. ((mark : Mark) × (f.accepted ≡ Some mark) × (m ≡ grown f.map mark.host mark.from)) × ForSome f.accepted (λ mark. mark.host < length f.map)) fs
+AreWaiting m fs = All (λ f. ((mark : AcceptedMark) × (f.accepted ≡ Some mark) × (m ≡ grown f.map mark.host mark.from)) × ForSome f.accepted (λ mark. mark.host < length f.map)) fs
 
 -- the filters, with one more where more are to serve
 abbrev pub filters_with : List (List Share) → ℕ → List FilterState → List FilterState

@@ -31,8 +31,8 @@ pub record MayTell (d e k senders : ℕ) (ms : List (MaintainerState Record)) (t
   pub own : AreTellable (length table) d (records_in (stock_of ms k senders))
 
 -- the message of sender k of so many at d to e
-abbrev pub told_by : (d e k senders : ℕ) → List (MaintainerState Record) → List (List ℕ) → Message
-told_by d e k senders ms table = message_to d e table (records_in (stock_of ms k senders))
+abbrev pub told_message : (d e k senders : ℕ) → List (MaintainerState Record) → List (List ℕ) → Message
+told_message d e k senders ms table = message_to d e table (records_in (stock_of ms k senders))
 
 -- the one at the lesser position
 abbrev pub nearer_of : Option (Slot Record) → Option (Slot Record) → Option (Slot Record)

@@ -2,7 +2,7 @@
 ghost use Rattle.std.specs.Prelude.{◌≡◌, ◌<◌, ◌++◌, [], ◌∷◌, fold, length, slice_set, IfOk, OnOk};
 ghost use Rattle.causal_deps.specs.declared.record.Item.TheVariants.{External};
 ghost use Rattle.abstract_log.specs.declared.script.Outcome.TheVariants.{Flushed, PassedOn};
-ghost use Rattle.toid_filter.specs.Filters.{Fits, filter_at, with_item, with_record};
+ghost use Rattle.toid_filter.specs.Filters.{FitsFilter, filter_at, with_item, with_record};
 ghost use Rattle.stage_world.specs.Turns.{flush_items, name_of, taken_by, unless_empty, way_of};
 ghost use Rattle.stage_turns.specs.Changing.{has_some};
 ghost use Rattle.stage_turns.specs.Flushing.{MayFlush, MayTake, taken_from, told_of};
@@ -91,7 +91,7 @@ fn take_item(filter: &mut Filter, item: Item) -> Result<Way, NoMemory>
 }
 
 fn take_record(filter: &mut Filter, rec: Record) -> Result<Way, NoMemory>
-    requires { Fits filter.old rec }
+    requires { FitsFilter filter.old rec }
     ensures filter { OnOk result (filter.new ≡ with_record filter.old rec) }
     ensures way { IfOk result (λ way. way ≡ way_of filter.old (External rec)) }
 {

@@ -5,7 +5,7 @@ ghost use Rattle.std.specs.Option.{ForSome};
 ghost use Rattle.causal_deps.specs.Counts.{raised_row, row_of};
 ghost use Rattle.abstract_log.specs.declared.script.Outcome.TheVariants.{Learnt as LearntRow};
 ghost use Rattle.maintainer.specs.Maintainers.{IsOwn, value_at};
-ghost use Rattle.stage_world.specs.MoreTurns.{counts_after, counts_with};
+ghost use Rattle.stage_world.specs.MoreTurns.{counts_after, counts_with_one};
 ghost use Rattle.stage_turns.specs.Learning.{IsAtOwner, MayLearn, learnable_by, row_events, row_learnt};
 
 use crate::TurnDone;
@@ -86,7 +86,7 @@ fn counted(
 fn count_at(row: &mut Counts, maintainer: &Maintainer<Record>, p: Lid)
     requires own { IsOwn maintainer.now p }
     requires host { ForSome (value_at p maintainer.now.entries) (λ r. r.host < length row.old) }
-    ensures { row.new ≡ counts_with row.old (value_at p maintainer.now.entries) }
+    ensures { row.new ≡ counts_with_one row.old (value_at p maintainer.now.entries) }
 {
     match maintainer.read(p) {
         Shown::Filled(rec) => row.raise(rec.host, rec.toid),

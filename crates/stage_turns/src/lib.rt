@@ -4,7 +4,7 @@
 //! layer above: what each function leaves of the stages that it is lent, what it answers and its events are the turn's
 //! equation there. Where stages stand for a log, each may be called.
 //!
-//! Tests: none here; the turns are run by the tests of `test_world` and of the program.
+//! Tests: none here; the turns are run by the tests of `test_world` and `test_program`.
 #![tactic(auto)]
 
 mod client;

@@ -4,7 +4,7 @@ ghost use Rattle.std.specs.Option.{ForSome};
 ghost use Rattle.causal_deps.specs.declared.record.Item.TheVariants.{External};
 ghost use Rattle.stage_marks.specs.declared.marks.NextMark.TheVariants.{Activate as IsActivating, Ask as IsAsking};
 ghost use Rattle.stage_marks.specs.Marks.{next_told};
-ghost use Rattle.toid_filter.specs.declared.filter.Mark.{Mark};
+ghost use Rattle.toid_filter.specs.declared.filter.AcceptedMark.{AcceptedMark};
 ghost use Rattle.toid_filter.specs.Champions.{grown as grown_map};
 ghost use Rattle.toid_filter.specs.Filters.{activated, cancelled, handed_out};
 ghost use Rattle.stage_world.specs.Stages.{Datacentre};
@@ -140,7 +140,7 @@ fn activate_all(
 }
 
 fn activate_one(filter: &mut Filter, grown: Champions, handed: &mut Batcher) -> Result<(), NoMemory>
-    requires grown { (mark : Mark) × (filter.old.accepted ≡ Some mark) × (grown ≡ grown_map filter.old.map mark.host mark.from) }
+    requires grown { (mark : AcceptedMark) × (filter.old.accepted ≡ Some mark) × (grown ≡ grown_map filter.old.map mark.host mark.from) }
     requires host { ForSome filter.old.accepted (λ mark. mark.host < length filter.old.map) }
     ensures filter { OnOk result (filter.new ≡ activated grown filter.old) }
     ensures handed { OnOk result (handed.new ≡ handed.old ++ map External (handed_out grown filter.old)) }

@@ -2,11 +2,12 @@
 
 ghost use Rattle.std.specs.Prelude.{◌≡◌, ◌≢◌, ◌↔◌, ◌≤◌, [], false, length, IfOk, IsTrue};
 ghost use Rattle.abstract_log.specs.declared.script.Outcome.TheVariants.{Sent};
-ghost use Rattle.record_codec.specs.Wire.{SpellsMessage};
+ghost use Rattle.record_codec.specs.Wire.{SpellsIn};
 ghost use Rattle.sender_receiver.specs.Choosing.{first_new};
+ghost use Rattle.sender_receiver.specs.Sending.{form_of};
 ghost use Rattle.sender_receiver.specs.Stocks.{records_in};
 ghost use Rattle.stage_world.specs.MoreTurns.{names_of};
-ghost use Rattle.stage_turns.specs.Told.{MayLook, MayTell, told_by};
+ghost use Rattle.stage_turns.specs.Told.{MayLook, MayTell, told_message};
 
 use crate::TurnDone;
 use crate::receiving::names_of;
@@ -17,7 +18,7 @@ use causal_deps::Record;
 use cz_base::{DcId, NoMemory, Seq, Toid};
 use lossy_links::Packet;
 use maintainer::Maintainer;
-use sender_receiver::{Sender, Stock, Told};
+use sender_receiver::{Sender, SpelledMessage, Stock};
 
 /// What a sender's turn answers, and the packet that goes into the link.
 #[derive(Debug, Drop)]
@@ -29,7 +30,8 @@ pub struct SendDone {
 }
 
 /// Sender k of so many makes its message to a datacentre of the records of the maintainers m with m modulo that many
-/// equal to k. The outcome is that of an empty link, into which the packet is still to go.
+/// equal to k, in the form that an upgrade of the sender and the lengths of the bodies ask for. The outcome is that of an empty link, into which the
+/// packet is still to go.
 pub fn send(
     to: DcId,
     k: u32,
@@ -39,8 +41,8 @@ pub fn send(
     table: &Aware,
 ) -> Result<SendDone, NoMemory>
     requires { MayTell sender.old.dc to k senders maintainers.now table.now.table }
-    ensures packet { IfOk result (λ sent. SpellsMessage (length table.now.table) sent.packet (told_by sender.old.dc to k senders maintainers.now table.now.table)) }
-    ensures outcome { IfOk result (λ sent. sent.done.outcome ≡ Sent (names_of (told_by sender.old.dc to k senders maintainers.now table.now.table).records) 0 false) }
+    ensures packet { let told = told_message sender.old.dc to k senders maintainers.now table.now.table in IfOk result (λ sent. SpellsIn (form_of sender.old.upgraded told) (length table.now.table) sent.packet told) }
+    ensures outcome { IfOk result (λ sent. sent.done.outcome ≡ Sent (names_of (told_message sender.old.dc to k senders maintainers.now table.now.table).records) 0 false) }
     ensures events { IfOk result (λ sent. sent.done.events ≡ []) }
     ensures changed { IfOk result (λ sent. sent.done.changed ≡ false) }
     ensures sender { sender.new ≡ sender.old }
@@ -50,7 +52,7 @@ pub fn send(
         k,
         senders,
     };
-    let Told { message, bytes } = sender.tell(to, table, &stock)?;
+    let SpelledMessage { message, bytes } = sender.tell(to, table, &stock)?;
     let outcome = Outcome::Sent {
         names: names_of(&message.records)?,
         link: 0,
@@ -77,7 +79,7 @@ pub fn has_more(
     table: &Aware,
 ) -> bool
     requires { MayLook dc to senders maintainers.now table.now.table }
-    ensures { IsTrue result ↔ ((told_by dc to k senders maintainers.now table.now.table).records ≢ []) }
+    ensures { IsTrue result ↔ ((told_message dc to k senders maintainers.now table.now.table).records ≢ []) }
 {
     let stock = SenderStock {
         maintainers,

@@ -15,7 +15,7 @@ use Rattle.abstract_log.specs.declared.event.Event.{Event}
 use Rattle.abstract_log.specs.declared.event.Event.TheVariants.{Learn as LearnEvent, Collect as CollectEvent}
 use Rattle.abstract_log.specs.declared.script.Outcome.TheVariants.{Absent, NoToken, Busy, LateStart, Announced, AcceptedBy, LateAt, Active, Idle, Sent, Lost, Copied, Member, EpochAdded, LateMark}
 use Rattle.abstract_log.specs.declared.script.Step.{Step}
-use Rattle.abstract_log.specs.declared.script.Step.TheVariants.{Client, Flush, Pass, Stamp, Token, Place, Gossip, Post, Learn, Send, Deliver, Lose, Copy, Floor, Collect, Announce, Mark, AddMaintainer, AddBatcher, AddQueue, AddSender, AddReceiver}
+use Rattle.abstract_log.specs.declared.script.Step.TheVariants.{Client, Flush, Pass, Stamp, Token, Place, Gossip, Post, Learn, Send, Deliver, Lose, Copy, Floor, Collect, Announce, Mark, AddMaintainer, AddBatcher, AddQueue, AddSender, AddReceiver, Upgrade}
 use Rattle.abstract_log.specs.declared.world.World.{World}
 use Rattle.abstract_log.specs.Worlds.{plan_of}
 use Rattle.lossy_links.specs.Links.{message_at, without}
@@ -113,6 +113,7 @@ turn_silent d z (AddBatcher _) = there_silent (has_room (length z.batchers)) z (
 turn_silent d z (AddQueue _) = there_silent (has_room (length z.queues)) z (quiet (Member (length z.queues)) (queue_added z)) (λ _. refl)
 turn_silent d z (AddSender _) = there_silent (has_room z.senders) z (quiet (Member z.senders) (sender_added z)) (λ _. refl)
 turn_silent d z (AddReceiver _) = there_silent (has_room z.receivers) z (quiet (Member z.receivers) (receiver_added z)) (λ _. refl)
+turn_silent d z (Upgrade _) = λ _. refl
 turn_silent d z (Deliver _ _ _ _) = λ _. refl
 turn_silent d z (Lose _ _ _) = λ _. refl
 turn_silent d z (Copy _ _ _) = λ _. refl
@@ -185,6 +186,7 @@ idle_is_silent w z (AddQueue d) h good idle = own_silent z (AddQueue d) d (there
 idle_is_silent w z (AddSender d) h good idle = own_silent z (AddSender d) d (there_is w z d h good) idle.datacentres
 idle_is_silent w z (AddReceiver d) h good idle = own_silent z (AddReceiver d) d (there_is w z d h good) idle.datacentres
 idle_is_silent w z (Send d k e) h good idle = cond_both (ltb k (datacentre_at z d).senders) (send_turn z d k e) (still Absent z) (λ (m : Moved). m.events ≡ []) (λ _. refl) (λ _. refl)
+idle_is_silent w z (Upgrade d) h good idle = refl
 idle_is_silent w z (Deliver d e k r) h good idle = cond_both (ltb r (datacentre_at z e).receivers) (deliver_turn z d e k r) (still Absent z) (λ (m : Moved). m.after.links ≡ z.links → m.events ≡ [])
     (λ _. delivered_silent w z d e k r h good) (λ _ _. refl) idle.links
 idle_is_silent w z (Lose d e k) h good idle = lost_silent z d e k

@@ -17,7 +17,7 @@ use Rattle.abstract_log.specs.Fits.{IsSize}
 use Rattle.toid_filter.specs.declared.champions.Share.{Share}
 use Rattle.toid_filter.specs.Champions.{grown, last_share, last_of_shares, sole_share}
 use Rattle.toid_filter.specs.Filters.{FilterState, Announcement, no_filter, new_filter, filter_at, times_passed, is_past, cancelled, activated, handed_out, AreSound}
-use Rattle.toid_filter.specs.Marks.{mark_of, asked_next, grown_by, filters_grown}
+use Rattle.toid_filter.specs.Marks.{mark_announced, asked_next, grown_by, filters_grown}
 use Rattle.toid_filter.proofs.SumLemmas.{AllKeep, kept_sums, kept_passing, kept_held, sum_by-map_external}
 use Rattle.toid_filter.proofs.MarkLemmas.{cancels, accepted_sound, cancelled_sound, shares_of, All-handed, all_activated, grown_sound, grown_sums, grown_passed, grown_held, grown_out}
 use Rattle.toid_filter.proofs.ShareLemmas.{last_of_shares-push}
@@ -26,7 +26,7 @@ use Rattle.toid_filter.specs.Sums.{is_named}
 use Rattle.stage_world.specs.Turns.{quiet, taken_by}
 use Rattle.stage_world.specs.MarkTurns.{announced, announce_idle, announce_turn, cancel_all, accept_next, activate_all, ask_next, mark_turn}
 use Rattle.stage_world.specs.StandsFor.{StandsAt, AreUnderWay, IsDue}
-use Rattle.stage_world.specs.Whole.{Keeps, place_of}
+use Rattle.stage_world.specs.Whole.{Keeps, datacentre_of}
 use Rattle.stage_world.proofs.ListLemmas.{All-set_at, sum_by-set_same}
 use Rattle.stage_world.proofs.AnnounceTurn.{announce_keeps}
 use Rattle.stage_world.proofs.FlushTurn.{all_taken_keep, length-taken, under_way_by_sums, stands_with}
@@ -75,7 +75,7 @@ module _ (w : World) (d : ℕ) (z : Datacentre) (h : StandsAt w d z) (a : Announ
   -- the next filter accepts the mark
   pub accept_keeps : a.next < length z.filters → is_past a.host a.mark (filter_at z.filters a.next) ≡ false → StandsAt w d (accept_next z a)
   accept_keeps low past =
-      let new : FilterState = record (filter_at z.filters a.next) { accepted = Some (mark_of a) } in
+      let new : FilterState = record (filter_at z.filters a.next) { accepted = Some (mark_announced a) } in
       let fs : List FilterState = set z.filters a.next new in
       let size : length fs ≡ length z.filters = length-set z.filters a.next new in
       stands_with w d z z.batchers fs z.map (Some (asked_next a)) refl (omega (arith, size, h.membership.members.ranges.filters.0), omega (arith, size, h.membership.members.ranges.filters.1)) refl
@@ -156,7 +156,7 @@ module _ (w : World) (d : ℕ) (z : Datacentre) (h : StandsAt w d z) (a : Announ
 
 -- a turn without events keeps what its state stands for
 pub quiet_keeps : (w : World) (d : ℕ) (outcome : Outcome) (y : Datacentre) → StandsAt w d y → Keeps w d (quiet outcome y)
-quiet_keeps w d outcome y h = record { can = tt; here = All-nil (λ e. place_of w.workload e ≡ d); stands = h }
+quiet_keeps w d outcome y h = record { can = tt; here = All-nil (λ e. datacentre_of w.workload e ≡ d); stands = h }
 
 -- the next filter is asked
 ask_keeps : (w : World) (d : ℕ) (z : Datacentre) (a : Announcement) → z.announcement ≡ Some a → a.next < length z.filters → StandsAt w d z → Keeps w d (ask_next z a)

@@ -24,8 +24,8 @@ clients z = map (λ x. Client x.number) z.sessions
 abbrev pub flushes : ℕ → Datacentre → List Step
 flushes d z = numbered (Flush d) (length z.batchers)
 
-abbrev pub passes : ℕ → Datacentre → List Step
-passes d z = numbered (λ f. Pass d f (f % length z.queues)) (length z.filters)
+abbrev pub pass_lines : ℕ → Datacentre → List Step
+pass_lines d z = numbered (λ f. Pass d f (f % length z.queues)) (length z.filters)
 
 -- .. the token once round the ring, each queue stamping while it has it, ..
 abbrev pub ring : ℕ → Datacentre → List Step
@@ -42,7 +42,7 @@ abbrev pub posts : ℕ → Datacentre → List Step
 posts d z = flat_map (λ m. numbered (Post d m) (length z.indexers)) (below (length z.maintainers))
 
 abbrev pub local_round : ℕ → Datacentre → List Step
-local_round d z = clients z ++ flushes d z ++ passes d z ++ ring d z ++ places d z ++ gossips d z ++ posts d z ++ Learn d ∷ []
+local_round d z = clients z ++ flushes d z ++ pass_lines d z ++ ring d z ++ places d z ++ gossips d z ++ posts d z ++ Learn d ∷ []
 
 -- the local rounds of these datacentres, one after another; none changes what another does
 abbrev pub rounds : Stages → List ℕ → List Step
@@ -74,8 +74,8 @@ abbrev pub errands : Stages → List Errand
 errands z = flat_map (λ d. flat_map (λ e. if d == e then [] else numbered (λ k. record { from = d; to = e; sender = k }) (datacentre_at z d).senders) (below (length z.datacentres))) (below (length z.datacentres))
 
 -- the first sender always sends, a further one where its message would hold a record
-abbrev pub is_due : Stages → Errand → Bool
-is_due z x = (x.sender == 0) || nat_lt 0 (length (message_of x.from (datacentre_at z x.from) x.sender x.to).records)
+abbrev pub has_errand : Stages → Errand → Bool
+has_errand z x = (x.sender == 0) || nat_lt 0 (length (message_of x.from (datacentre_at z x.from) x.sender x.to).records)
 
 -- it sends, and the newest packet of the link is delivered
 abbrev pub sent_and_delivered : Workload → Stages → Errand → List Step
@@ -84,7 +84,7 @@ sent_and_delivered load z x =
     send ∷ Deliver x.from x.to (link_length (step_of load z send).after x.from x.to) 0 ∷ []
 
 abbrev pub errand_turns : Workload → Stages → Errand → List Step
-errand_turns load z x = if is_due z x then sent_and_delivered load z x else []
+errand_turns load z x = if has_errand z x then sent_and_delivered load z x else []
 
 -- one errand after another
 abbrev pub exchange : Workload → Stages → List Errand → List Step

@@ -5,7 +5,7 @@ use Rattle.causal_deps.specs.Counts.{entry_of, greater_rows, raised_row, zero_ta
 use Rattle.causal_deps.specs.declared.record.Record.{Record}
 use Rattle.causal_deps.specs.declared.record.Kind.TheVariants.{Append}
 use Rattle.record_codec.specs.Wire.{FitsRecord, fewest_tags, most_tags}
-use Rattle.sender_receiver.specs.Stocks.{records_in, placed_from}
+use Rattle.sender_receiver.specs.Stocks.{records_in, stocked_from}
 use Rattle.sender_receiver.specs.Sending.{AreTellable}
 use Rattle.sender_receiver.proofs.Placed.{records_in-placed_from}
 
@@ -15,7 +15,7 @@ two zero n below = refl
 two (suc zero) n below = refl
 two (suc (suc h)) n below = absurd (omega arith)
 
-pub numbered_fits : (r : Record) → r.host < 2 → 1 ≤ r.toid → r.toid < 2 ^ 32 → r.session ≡ 0 → r.index ≡ 1 → r.kind ≡ Append → r.tags ≡ [] → r.body ≡ []
+pub numbered_fits : (r : Record) → r.host < 2 → 1 ≤ r.toid → r.toid < 2 ^ 32 → r.session ≡ 0 → r.index ≡ 1 → r.kind ≡ Append → r.tags ≡ [] → length r.body ≤ 4096
     → r.dep ≡ set (0 ∷ 0 ∷ []) r.host (r.toid - 1) → FitsRecord 2 r
 numbered_fits r host first toid session index kind tags body dep =
     let P : List ℕ → Type 0 = λ xs. All (λ n. n < 2 ^ 48) xs in
@@ -31,7 +31,7 @@ numbered_fits r host first toid session index kind tags body dep =
       own = ap (λ xs. get_or xs r.host 0) dep ∙ get_or-set_same (0 ∷ 0 ∷ []) r.host (r.toid - 1) 0 host;
       tags_first = rw kind (omega arith);
       tags = rw kind (omega (arith, ap length tags));
-      body = rw kind (omega (arith, ap length body));
+      body = rw kind body;
     }
 
 pub pushed : (xs ys : List Record) (r : Record) → All (λ r. FitsRecord 2 r) xs → FitsRecord 2 r → ys ≡ xs ++ r ∷ [] → All (λ r. FitsRecord 2 r) ys
@@ -39,10 +39,10 @@ pushed xs ys r all fits is =
     let P : List Record → Type 0 = λ rs. All (λ r. FitsRecord 2 r) rs in
     subst P (sym is) (All-push (λ r. FitsRecord 2 r) xs r all fits)
 
-pub tellable : (n : ℕ) (d dcs : ℕ) (records : List Record) → dcs ≡ 2 → All (λ r. FitsRecord 2 r) records → AreTellable dcs d (records_in (placed_from n records))
+pub tellable : (n : ℕ) (d dcs : ℕ) (records : List Record) → dcs ≡ 2 → All (λ r. FitsRecord 2 r) records → AreTellable dcs d (records_in (stocked_from n records))
 tellable n d dcs records is_two all =
     let P : List Record → Type 0 = λ rs. AreTellable 2 d rs in
-    let D : ℕ → Type 0 = λ m. AreTellable m d (records_in (placed_from n records)) in
+    let D : ℕ → Type 0 = λ m. AreTellable m d (records_in (stocked_from n records)) in
     subst D (sym is_two) (subst P (sym (records_in-placed_from n records)) (λ k r inside _. all k r inside))
 
 -- a table with one entry above 0

@@ -1,5 +1,5 @@
 //! Rows of the crates that lead from one datacentre to another and that place records: links, senders and receivers with
-//! their wire form, owners, maintainers, vectors and heads.
+//! their wire forms, owners, maintainers, vectors and heads.
 //!
 //! Each file is a table of rows worked by hand and the tests that go through it. Where a row is about a limit, it has the
 //! number of the limit and not its name. The crate has no code of its own and proves nothing for others.

@@ -90,12 +90,36 @@ fn link_of(alloc: Global, row: &Row) -> Result<Link, NoMemory> {
     Ok(link)
 }
 
+// The bytes of the packets of a link, one after the other.
+fn bytes_of(alloc: Global, link: &Link) -> Result<Vec<u8>, Fail> {
+    let mut bytes = Vec::new(alloc);
+    for packet in link.packets() {
+        bytes.extend_from_slice(packet.as_bytes())?;
+    }
+    Ok(bytes)
+}
+
+#[test]
+fn packets_are_looked_at(rt: HostRuntime) -> Result<(), Fail> {
+    let alloc = rt.alloc();
+    let link = full_link(alloc)?;
+    for k in [1, 2, 64] {
+        assert_eq!(rt; link.packet(k), Some(&packet(alloc, k as u8)?));
+    }
+    for k in [0, 65, 66] {
+        assert_eq!(rt; link.packet(k), None);
+    }
+    Ok(())
+}
+
 #[test]
 fn only_a_link_full_of_equal_packets_stays(rt: HostRuntime) -> Result<(), Fail> {
     let alloc = rt.alloc();
     for row in &ROWS {
-        let link = link_of(alloc, row)?;
-        assert_eq!(rt; link.is_full_of(&packet(alloc, row.new)?), row.stays);
+        let mut link = link_of(alloc, row)?;
+        let before = bytes_of(alloc, &link)?;
+        let _oldest = link.put(packet(alloc, row.new)?);
+        assert_eq!(rt; bytes_of(alloc, &link)? == before, row.stays);
     }
     Ok(())
 }

@@ -211,6 +211,20 @@ fn additions_are_refused(rt: HostRuntime) -> Result<(), Fail> {
 }
 
 #[test]
+fn upgrades_are_refused(rt: HostRuntime) -> Result<(), Fail> {
+    let rows = [
+        ("upgrade\n", Cause::WrongWords),
+        ("upgrade A B\n", Cause::WrongWords),
+        ("upgrade A 2\n", Cause::WrongWords),
+        ("upgrade C\n", Cause::BadDatacentre),
+        ("upgrade a\n", Cause::BadDatacentre),
+        ("upgraded A\n", Cause::UnknownWord),
+        ("downgrade A\n", Cause::UnknownWord),
+    ];
+    refuses(&rt, rt.alloc(), LINKS_OF_TWO, 5, &rows)
+}
+
+#[test]
 fn no_member_is_added_to_a_full_stage(rt: HostRuntime) -> Result<(), Fail> {
     let rows = [
         ("announce B A 1\n", Cause::TooMany),

@@ -1,7 +1,7 @@
 //! Scripts that are read, and those that are too long by one line.
 use crate::fronts::{ONE_DATACENTRE, ONE_SESSION};
 use abstract_log::{Command, Step};
-use cz_base::limits::{BODY_BYTES, MEMBERS, SESSIONS, STEPS};
+use cz_base::limits::{MEMBERS, SESSIONS, STEPS};
 use cz_base::{DcId, Seq};
 use script_text::{Cause, ScriptFault, read_script};
 use std::alloc::Global;
@@ -72,13 +72,32 @@ fn an_empty_body_and_eight_tags_are_read(rt: HostRuntime) -> Result<(), Fail> {
     Ok(())
 }
 
-#[test]
-fn a_body_of_1025_bytes_is_bad(rt: HostRuntime) -> Result<(), Fail> {
-    let alloc = rt.alloc();
+// A script whose one command appends a body of so many bytes.
+fn with_body(alloc: Global, bytes: usize) -> Result<Vec<u8>, Fail> {
     let mut script = Vec::from_slice(alloc, ONE_SESSION.as_bytes())?;
     script.extend_from_slice(b"append =")?;
-    script.extend_from_slice(&vec![in alloc; b'x'; BODY_BYTES + 1]?)?;
-    let fault = read_script(alloc, &script).err();
+    script.extend_from_slice(&vec![in alloc; b'x'; bytes]?)?;
+    script.extend_from_slice(b"\nsteps\nend\n")?;
+    Ok(script)
+}
+
+#[test]
+fn a_body_of_up_to_4096_bytes_is_read(rt: HostRuntime) -> Result<(), Fail> {
+    let alloc = rt.alloc();
+    for bytes in [1024, 1025, 4096] {
+        let script = read_script(alloc, &with_body(alloc, bytes)?)?;
+        for plan in &script.workload.sessions {
+            let sizes = appends(alloc, &plan.commands)?;
+            assert_eq!(rt; sizes.as_slice(), [(bytes, 0)].as_slice());
+        }
+    }
+    Ok(())
+}
+
+#[test]
+fn a_body_of_4097_bytes_is_bad(rt: HostRuntime) -> Result<(), Fail> {
+    let alloc = rt.alloc();
+    let fault = read_script(alloc, &with_body(alloc, 4097)?).err();
     assert_eq!(rt;
         fault,
         Some(ScriptFault::Bad {
@@ -227,6 +246,7 @@ addbatcher A
 addqueue C
 addsender C
 addreceiver A
+upgrade B
 end
 ";
 
@@ -277,6 +297,7 @@ fn each_turn_is_read(rt: HostRuntime) -> Result<(), Fail> {
         Step::AddQueue { d: c },
         Step::AddSender { d: c },
         Step::AddReceiver { d: a },
+        Step::Upgrade { d: b },
     ];
     assert_eq!(rt; script.steps.as_slice(), steps.as_slice());
     assert_eq!(rt; script.workload.dcs, 3);

@@ -7,9 +7,9 @@ use Rattle.abstract_log.specs.Left.{left_of}
 use Rattle.abstract_log.specs.Runs.{world_of}
 use Rattle.world.specs.declared.stages.Played.{Played}
 use Rattle.world.specs.Replays.{IsReplayed}
-use Rattle.test_world.specs.Given.{IsWhole}
+use Rattle.test_world.specs.Given.{IsToldWhole}
 
-pub told : (script : Script) (played : Played) → FitsScript script → IsReplayed script played → IsWhole played
+pub told : (script : Script) (played : Played) → FitsScript script → IsReplayed script played → IsToldWhole played
 told script played fits replayed = record {
   limits = subst FitsLimits (sym replayed.workload) fits.limits;
   left = subst (λ (load : Workload). played.left ≡ left_of (world_of load played.run.events)) (sym replayed.workload) replayed.left;

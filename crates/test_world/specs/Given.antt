@@ -24,6 +24,6 @@ pub record IsGiven (load : Workload) : Type 0 where
   pub is : load ≡ record { dcs = 2; sessions = record { home = 0; commands = writes } ∷ record { home = 1; commands = Read 1 ∷ [] } ∷ [] }
 
 -- The run is on a workload within the limits, and what it leaves is told.
-pub record IsWhole (played : Played) : Type 0 where
+pub record IsToldWhole (played : Played) : Type 0 where
   pub limits : FitsLimits played.run.workload
   pub left : played.left ≡ left_of (world_of played.run.workload played.run.events)

@@ -1,5 +1,5 @@
 //! Schedules of several datacentres, as tests: one that is taken step by step, one that is broken off half way and settled, one in which
-//! every stage gets a member, and one whose turns are taken twice. It has no code of its own and proves nothing for others.
+//! every stage gets a member, one with an upgrade, and one whose turns are taken twice. It has no code of its own and proves nothing for others.
 #![tactic(auto)]
 
 #[cfg(test)]
@@ -14,3 +14,5 @@ mod playing;
 mod steps;
 #[cfg(test)]
 mod two_datacentres;
+#[cfg(test)]
+mod upgrading;

@@ -1,7 +1,7 @@
 //! A script, played to its end.
 
 ghost use Rattle.std.specs.Prelude.{IfOk};
-ghost use Rattle.test_world.specs.Given.{IsWhole};
+ghost use Rattle.test_world.specs.Given.{IsToldWhole};
 
 use crate::steps::may_take_all;
 use script_text::read_script;
@@ -15,7 +15,7 @@ use world::{Played, replay};
 ///
 /// Where it is refused, where the stages may not take one of its steps, and for want of memory.
 pub(crate) fn play(alloc: Global, script: &[u8]) -> Result<Played, Fail>
-    ensures { IfOk result IsWhole }
+    ensures { IfOk result IsToldWhole }
 {
     let script = read_script(alloc, script)?;
     if !may_take_all(&script.workload, script.steps.as_slice()) {

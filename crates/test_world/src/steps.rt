@@ -36,6 +36,7 @@ pub(crate) fn may_take(workload: &Workload, step: &Step) -> bool
         Step::AddQueue { d } => d.number() < dcs,
         Step::AddSender { d } => d.number() < dcs,
         Step::AddReceiver { d } => d.number() < dcs,
+        Step::Upgrade { d } => d.number() < dcs,
     }
 }
 

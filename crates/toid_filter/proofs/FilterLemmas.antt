@@ -13,7 +13,7 @@ use Rattle.toid_filter.specs.declared.champions.Share.{Share}
 use Rattle.toid_filter.specs.declared.filter.Verdict.{Verdict}
 use Rattle.toid_filter.specs.declared.filter.Verdict.TheVariants.{Passed, Held, Dropped}
 use Rattle.toid_filter.specs.Champions.{champion}
-use Rattle.toid_filter.specs.Filters.{FilterState, new_filter, owns, is_passed, has_name, is_held, is_known, times_passed, times_held, all_below, is_done, is_met, is_held_back, is_free, is_due, due, not_due, released, stands_before, with_held, IsTaken, Fits, IsTidy, IsSteady, IsSound}
+use Rattle.toid_filter.specs.Filters.{FilterState, new_filter, owns, is_passed, has_name, is_held, is_known, times_passed, times_held, all_below, is_done, is_met, is_held_back, is_free, is_due, due, not_due, released, stands_before, with_held, IsTaken, FitsFilter, IsTidy, IsSteady, IsSound}
 use Rattle.toid_filter.proofs.Tests.{all_below_at, all_below_from, settled_gives, settled_from, name_parts, name_from, before_parts, before_from_host, before_from_toid, not_before, before_trans, held_back_below, any_gives, any_from, filter_keeps, all_from_contains, pairs_parts, pairs_append}
 use Rattle.toid_filter.proofs.Reached.{reached_length, reached_cases}
 
@@ -62,7 +62,7 @@ due_below f d q is host low =
     due_from f q (λ u under. subst (λ h. is_met f h u ≡ true) (sym host) (parts.0 u (omega arith)))
     (subst (λ h. is_held_back f.accepted h q.toid ≡ false) (sym host) (held_back_below f.accepted d.host d.toid q.toid parts.1 low))
 
-pub own_is : (f : FilterState) (r : Record) → Fits f r → owns f r.host r.toid ≡ true
+pub own_is : (f : FilterState) (r : Record) → FitsFilter f r → owns f r.host r.toid ≡ true
 own_is f r fits = eq-eqb (champion f.map r.host r.toid) f.number fits.own
 
 -- Where none is due, a number is passed once all smaller own numbers are met, unless a mark holds it back.
@@ -162,7 +162,7 @@ module _ (f : FilterState) (r : Record) where
     ]
   ]))
 
-  module _ (tidy : IsTidy f) (fits : Fits f r) (new : is_known f r.host r.toid ≡ false) where
+  module _ (tidy : IsTidy f) (fits : FitsFilter f r) (new : is_known f r.host r.toid ≡ false) where
     unpassed : is_passed f r.host r.toid ≡ false
     unpassed = (or_parts (is_passed f r.host r.toid) (is_held f r.host r.toid) new).0
 
@@ -189,9 +189,9 @@ module _ (f : FilterState) (r : Record) where
       width = tidy.width;
       reached_own = tidy.reached_own;
       reached_open = tidy.reached_open;
-      fits = all_from_contains (Fits g) g.held (λ q has. elim (with_gives q has) [
-        | inl same ↦ subst (Fits g) same (record { host = fits.host; first = fits.first; own = fits.own })
-        | inr old ↦ let was = All-contains (Fits f) f.held q tidy.fits old in record { host = was.host; first = was.first; own = was.own }
+      fits = all_from_contains (FitsFilter g) g.held (λ q has. elim (with_gives q has) [
+        | inl same ↦ subst (FitsFilter g) same (record { host = fits.host; first = fits.first; own = fits.own })
+        | inr old ↦ let was = All-contains (FitsFilter f) f.held q tidy.fits old in record { host = was.host; first = was.first; own = was.own }
       ]);
       unpassed = all_from_contains (λ (q : Record). is_passed g q.host q.toid ≡ false) g.held (λ q has. elim (with_gives q has) [
         | inl same ↦ subst (λ (x : Record). is_passed g x.host x.toid ≡ false) same unpassed
@@ -213,8 +213,8 @@ module _ (f : FilterState) (tidy : IsTidy f) where
   due_is : (d : Record) → Contains (due f) d → Contains f.held d × (is_due f d ≡ true)
   due_is d has = Contains-filter (is_due f) f.held d has
 
-  fits_due : (d : Record) → Contains f.held d → Fits f d
-  fits_due d has = All-contains (Fits f) f.held d tidy.fits has
+  fits_due : (d : Record) → Contains f.held d → FitsFilter f d
+  fits_due d has = All-contains (FitsFilter f) f.held d tidy.fits has
 
   -- what is passed then was known
   pub passed_known : (h t : ℕ) → is_passed after h t ≡ true → is_known f h t ≡ true
@@ -269,7 +269,7 @@ module _ (f : FilterState) (tidy : IsTidy f) where
         | inr (d, has, host, at) ↦ ap (is_held_back f.accepted h) at ∙ ap (λ g. is_held_back f.accepted g d.toid) (sym host) ∙ (due_parts f d (due_is d has).1).1
       ];
       rising = AllPairs-filter (λ q r. stands_before r.host r.toid q ≡ true) (λ r. not (is_due f r)) f.held tidy.rising;
-      fits = all_from_contains (Fits after) (not_due f) (λ q has. let was = fits_due q (kept_is q has).0 in record { host = was.host; first = was.first; own = was.own });
+      fits = all_from_contains (FitsFilter after) (not_due f) (λ q has. let was = fits_due q (kept_is q has).0 in record { host = was.host; first = was.first; own = was.own });
       unpassed = all_from_contains (λ (q : Record). is_passed after q.host q.toid ≡ false) (not_due f) (λ q has. false_from_ne_true (is_passed after q.host q.toid) (λ is. absurd (unpassed_then q has is)));
     };
     none_due = all_from_contains (λ (q : Record). is_due after q ≡ false) (not_due f) (λ q has. false_from_ne_true (is_due after q) (λ is. true≢false (sym (due_then q is) ∙ (kept_is q has).1)));
@@ -305,7 +305,7 @@ count_once h t (x ∷ xs) rising =
 pub steady_sound : (f : FilterState) → IsSteady f → IsSound f
 steady_sound f steady = record {
   own_passed = λ h t is. (passed_parts f h t is).2;
-  own_held = All-weaker (Fits f) (λ (r : Record). owns f r.host r.toid ≡ true) (λ r fits. own_is f r fits) f.held steady.tidy.fits;
+  own_held = All-weaker (FitsFilter f) (λ (r : Record). owns f r.host r.toid ≡ true) (λ r fits. own_is f r fits) f.held steady.tidy.fits;
   once = λ h t. elim (cases_Bool (is_passed f h t)) [
     | inr new ↦ let none : times_passed h t f ≡ 0 = cond-false (is_passed f h t) 1 0 new in omega (arith, none, count_once h t f.held steady.tidy.rising)
     | inl passed ↦
@@ -330,7 +330,7 @@ steady_out f items steady = record {
     reached_own = steady.tidy.reached_own;
     reached_open = steady.tidy.reached_open;
     rising = steady.tidy.rising;
-    fits = All-weaker (Fits f) (Fits (record f { out = items })) (λ r was. record { host = was.host; first = was.first; own = was.own }) f.held steady.tidy.fits;
+    fits = All-weaker (FitsFilter f) (FitsFilter (record f { out = items })) (λ r was. record { host = was.host; first = was.first; own = was.own }) f.held steady.tidy.fits;
     unpassed = steady.tidy.unpassed;
   };
   none_due = all_from_contains (λ (r : Record). is_due (record f { out = items }) r ≡ false) f.held (λ q has. false_from_ne_true (is_due (record f { out = items }) q) (λ is.
@@ -358,7 +358,7 @@ new_steady number map = record {
 }
 
 -- Taking a record keeps it.
-pub taken_steady : (f : FilterState) (r : Record) (v : Verdict) (g : FilterState) → IsSteady f → Fits f r → IsTaken f r v g → IsSteady g
+pub taken_steady : (f : FilterState) (r : Record) (v : Verdict) (g : FilterState) → IsSteady f → FitsFilter f r → IsTaken f r v g → IsSteady g
 taken_steady f r Dropped g steady fits took = subst IsSteady (sym took.1) steady
 taken_steady f r Held g steady fits took = subst IsSteady (sym took.2) (record {
   tidy = tidy_with f r steady.tidy fits took.0;

@@ -9,7 +9,7 @@ use Rattle.causal_deps.specs.declared.record.Record.{Record}
 use Rattle.toid_filter.specs.declared.champions.Share.{Share}
 use Rattle.toid_filter.specs.Champions.{last_share}
 use Rattle.toid_filter.specs.Filters.{FilterState, Announcement, no_filter, new_filter, filter_at, has_name, is_own, is_passed, times_passed, due, cancelled, activated, IsSteady, AreSound}
-use Rattle.toid_filter.specs.Marks.{mark_of, accepted_next, filters_grown, grown_by}
+use Rattle.toid_filter.specs.Marks.{mark_announced, accepted_next, filters_grown, grown_by}
 use Rattle.toid_filter.specs.Laws.{HavePassed}
 use Rattle.toid_filter.specs.Growth.{Filtering, AreSoundTogether, GoesOn, GoOn, HasGained, HaveGained}
 use Rattle.toid_filter.proofs.FilterLemmas.{none_reached, passed_parts}
@@ -44,7 +44,7 @@ cancel_gains f steady =
     let all = release_passes x (open_tidy f steady.tidy) in
     record { out = all.out; rising = all.rising; counts = all.counts; new = all.new; reached = all.reached; grows = all.grows }
 
-activate_gains : (m : List (List Share)) (a : Announcement) (f : FilterState) → f.map ≡ m → f.accepted ≡ Some (mark_of a) → IsSteady f
+activate_gains : (m : List (List Share)) (a : Announcement) (f : FilterState) → f.map ≡ m → f.accepted ≡ Some (mark_announced a) → IsSteady f
     → HasGained f (activated (grown_by a m) f) (due (record f { map = grown_by a m; accepted = None; held = filter (is_own (grown_by a m) f.number) f.held }))
 activate_gains m a f fm marked steady =
     let x : FilterState = record f { map = grown_by a m; accepted = None; held = filter (is_own (grown_by a m) f.number) f.held } in
@@ -107,7 +107,7 @@ accept_gains a fs = (
 )
   where
     new : FilterState
-    new = record (filter_at fs a.next) { accepted = Some (mark_of a) }
+    new = record (filter_at fs a.next) { accepted = Some (mark_announced a) }
 
 -- what filters gain by a change of each of them
 abbrev gain_by : (FilterState → List Record) → List FilterState → ℕ → List Record

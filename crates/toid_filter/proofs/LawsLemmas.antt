@@ -14,7 +14,7 @@ use Rattle.toid_filter.specs.declared.champions.Share.{Share}
 use Rattle.toid_filter.specs.declared.filter.Verdict.{Verdict}
 use Rattle.toid_filter.specs.declared.filter.Verdict.TheVariants.{Passed, Held, Dropped}
 use Rattle.toid_filter.specs.Champions.{champion, dealt_by, dealt_from, first_map, last_share, last_of_shares, sole_share}
-use Rattle.toid_filter.specs.Filters.{FilterState, Announcement, no_filter, new_filter, filter_at, owns, is_passed, has_name, is_held, is_known, times_passed, all_below, is_done, is_free, is_held_back, is_due, due, reached_by, released, stands_before, with_held, with_record, mark_accepted, IsTaken, Fits, IsTidy, IsSteady, AreSound}
+use Rattle.toid_filter.specs.Filters.{FilterState, Announcement, no_filter, new_filter, filter_at, owns, is_passed, has_name, is_held, is_known, times_passed, all_below, is_done, is_free, is_held_back, is_due, due, reached_by, released, stands_before, with_held, with_record, mark_accepted, IsTaken, FitsFilter, IsTidy, IsSteady, AreSound}
 use Rattle.toid_filter.specs.Growth.{HasGained}
 use Rattle.toid_filter.specs.Laws.{AreTaken, AreTakenByChampions, HasPassed, HavePassed, IsKnownToChampion, Waits}
 use Rattle.toid_filter.proofs.Tests.{filter_keeps, all_from_contains, name_parts, name_from, before_parts, pairs_append}
@@ -34,8 +34,8 @@ module _ (f : FilterState) (tidy : IsTidy f) where
   due_in : (d : Record) → Contains (due f) d → Contains f.held d × (is_due f d ≡ true)
   due_in d has = Contains-filter (is_due f) f.held d has
 
-  fits_in : (d : Record) → Contains (due f) d → Fits f d
-  fits_in d has = All-contains (Fits f) f.held d tidy.fits (due_in d has).0
+  fits_in : (d : Record) → Contains (due f) d → FitsFilter f d
+  fits_in d has = All-contains (FitsFilter f) f.held d tidy.fits (due_in d has).0
 
   due_passed : (h t : ℕ) (d : Record) → Contains (due f) d → d.host ≡ h → d.toid ≡ t → is_passed (released f) h t ≡ true
   due_passed h t d has host toid =
@@ -125,7 +125,7 @@ none_passed f = record {
 }
 
 -- one take
-taken_passes : (f : FilterState) (r : Record) (v : Verdict) (g : FilterState) → IsSteady f → Fits f r → IsTaken f r v g → ((gained : List Record) × HasPassed f g gained) × (is_known g r.host r.toid ≡ true)
+taken_passes : (f : FilterState) (r : Record) (v : Verdict) (g : FilterState) → IsSteady f → FitsFilter f r → IsTaken f r v g → ((gained : List Record) × HasPassed f g gained) × (is_known g r.host r.toid ≡ true)
 taken_passes f r Dropped g steady fits took = subst (λ x. ((gained : List Record) × HasPassed f x gained) × (is_known x r.host r.toid ≡ true)) (sym took.1) (([], none_passed f), took.0)
 taken_passes f r Held g steady fits took = subst (λ x. ((gained : List Record) × HasPassed f x gained) × (is_known x r.host r.toid ≡ true)) (sym took.2) (
   (
@@ -284,14 +284,14 @@ module _ (map : List (List Share)) (a : Option Announcement) (fs : List FilterSt
   abbrev taker : FilterState
   taker = filter_at fs (champion map r.host r.toid)
 
-  pub take_sound : Fits taker r → IsTaken taker r v next → AreSound map a (set fs (champion map r.host r.toid) next)
+  pub take_sound : FitsFilter taker r → IsTaken taker r v next → AreSound map a (set fs (champion map r.host r.toid) next)
   take_sound fits took =
       let low : champion map r.host r.toid < length fs = sound.there r.host r.toid in
       let same = taken_same taker next r v took in
       sound_set map a fs (champion map r.host r.toid) next (taken_steady taker r v next (sound.each (champion map r.host r.toid) no_filter low) fits took)
       (same.0 ∙ sound.numbers (champion map r.host r.toid) low) (same.1 ∙ sound.one_map (champion map r.host r.toid) no_filter low) same.2 low sound
 
-  pub take_passes : Fits taker r → IsTaken taker r v next → ((gained : List Record) × HasPassed taker next gained) × (is_known next r.host r.toid ≡ true)
+  pub take_passes : FitsFilter taker r → IsTaken taker r v next → ((gained : List Record) × HasPassed taker next gained) × (is_known next r.host r.toid ≡ true)
   take_passes fits took = taken_passes taker r v next (sound.each (champion map r.host r.toid) no_filter (sound.there r.host r.toid)) fits took
 
 pub champions_sound : (map : List (List Share)) (a : Option Announcement) (fs gs : List FilterState) (rs : List Record) → AreSound map a fs → AreTakenByChampions map fs rs gs → AreSound map a gs

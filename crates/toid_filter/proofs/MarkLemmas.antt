@@ -13,11 +13,11 @@ use Rattle.causal_deps.specs.declared.record.Item.{Item}
 use Rattle.causal_deps.specs.declared.record.Item.TheVariants.{External}
 use Rattle.causal_deps.proofs.Lists.{Contains-filter}
 use Rattle.toid_filter.specs.declared.champions.Share.{Share}
-use Rattle.toid_filter.specs.declared.filter.Mark.{Mark}
+use Rattle.toid_filter.specs.declared.filter.AcceptedMark.{AcceptedMark}
 use Rattle.toid_filter.specs.Champions.{champion, dealt_by, dealt_from, grown, last_share, last_of_shares, share_from, sole_share}
-use Rattle.toid_filter.specs.Filters.{FilterState, Announcement, no_filter, new_filter, filter_at, owns, is_passed, is_held_back, is_due, is_own, is_past, times_passed, cancelled, activated, handed_out, mark_accepted, stands_before, Fits, IsTidy, IsSteady, AreSound}
+use Rattle.toid_filter.specs.Filters.{FilterState, Announcement, no_filter, new_filter, filter_at, owns, is_passed, is_held_back, is_due, is_own, is_past, times_passed, cancelled, activated, handed_out, mark_accepted, stands_before, FitsFilter, IsTidy, IsSteady, AreSound}
 use Rattle.toid_filter.specs.Sums.{items_of, in_held, in_out, passed, LosesNothing}
-use Rattle.toid_filter.specs.Marks.{mark_of, asked_next, accepted_next, grown_by, filters_grown}
+use Rattle.toid_filter.specs.Marks.{mark_announced, asked_next, accepted_next, grown_by, filters_grown}
 use Rattle.toid_filter.proofs.ShareLemmas.{last_of_shares-push}
 use Rattle.toid_filter.proofs.Tests.{all_from_contains, held_back_below}
 use Rattle.toid_filter.proofs.FilterLemmas.{passed_parts, passed_from, due_parts, due_from, own_is, released_steady, new_steady, none_reached}
@@ -45,7 +45,7 @@ announced_sound m fs h mark sound host later room =
       each = sound.each;
       one_map = sound.one_map;
       numbers = sound.numbers;
-      heard = λ i low. sound.heard i low ∙ sym (cond-false (ltb i 0) (Some (mark_of a)) None (le-ltb i 0 (omega arith)));
+      heard = λ i low. sound.heard i low ∙ sym (cond-false (ltb i 0) (Some (mark_announced a)) None (le-ltb i 0 (omega arith)));
       host = λ b is. of_announcement (λ (x : Announcement). x.host < length m) a b is host;
       asked = λ b is. of_announcement (λ (x : Announcement). x.next ≤ length fs) a b is (omega arith);
       later = λ b is. of_announcement (λ (x : Announcement). (last_share m x.host).start < x.mark) a b is later;
@@ -72,7 +72,7 @@ accepts f h mark steady free past =
             true≢false (sym (and_from (leb 1 (get_or f.reached h 0)) (leb mark (get_or f.reached h 0)) (ap (λ k. leb 1 (get_or f.reached k 0)) (sym same) ∙ le-leb 1 (get_or f.reached g 0) some)
             (ap (λ k. leb mark (get_or f.reached k 0)) (sym same) ∙ both.1)) ∙ past));
         rising = steady.tidy.rising;
-        fits = All-weaker (Fits f) (Fits x) (λ r was. record { host = was.host; first = was.first; own = was.own }) f.held steady.tidy.fits;
+        fits = All-weaker (FitsFilter f) (FitsFilter x) (λ r was. record { host = was.host; first = was.first; own = was.own }) f.held steady.tidy.fits;
         unpassed = steady.tidy.unpassed;
       };
       none_due = All-weaker (λ (r : Record). is_due f r ≡ false) (λ (r : Record). is_due x r ≡ false) (λ r undue. false_from_ne_true (is_due x r) (λ is.
@@ -87,10 +87,10 @@ accepted_sound m a fs sound low past = record {
   numbers = at_set (λ j (x : FilterState). x.number ≡ j) fs a.next new (sound.numbers a.next low) sound.numbers;
   heard = λ i within. let inside : i < length fs = omega (arith, length-set fs a.next new) in elim (cases_eq i a.next) [
     | inl same ↦ ap (λ j. (filter_at (set fs a.next new) j).accepted) same ∙ ap (λ (x : FilterState). x.accepted) (get_or-set_same fs a.next new no_filter low)
-        ∙ sym (cond-true (ltb i (a.next + 1)) (Some (mark_of a)) None (lt-ltb i (a.next + 1) (omega arith)))
+        ∙ sym (cond-true (ltb i (a.next + 1)) (Some (mark_announced a)) None (lt-ltb i (a.next + 1) (omega arith)))
     | inr other ↦ ap (λ (x : FilterState). x.accepted) (get_or-set_other fs a.next i new no_filter other) ∙ sound.heard i inside ∙ elim (cases_lt i a.next) [
-      | inl before ↦ cond-true (ltb i a.next) (Some (mark_of a)) None (lt-ltb i a.next before) ∙ sym (cond-true (ltb i (a.next + 1)) (Some (mark_of a)) None (lt-ltb i (a.next + 1) (omega arith)))
-      | inr later ↦ cond-false (ltb i a.next) (Some (mark_of a)) None (le-ltb i a.next later) ∙ sym (cond-false (ltb i (a.next + 1)) (Some (mark_of a)) None (le-ltb i (a.next + 1) (omega arith)))
+      | inl before ↦ cond-true (ltb i a.next) (Some (mark_announced a)) None (lt-ltb i a.next before) ∙ sym (cond-true (ltb i (a.next + 1)) (Some (mark_announced a)) None (lt-ltb i (a.next + 1) (omega arith)))
+      | inr later ↦ cond-false (ltb i a.next) (Some (mark_announced a)) None (le-ltb i a.next later) ∙ sym (cond-false (ltb i (a.next + 1)) (Some (mark_announced a)) None (le-ltb i (a.next + 1) (omega arith)))
     ]
   ];
   host = λ b is. of_announcement (λ (x : Announcement). x.host < length m) (asked_next a) b is (sound.host a refl);
@@ -105,10 +105,10 @@ accepted_sound m a fs sound low past = record {
     old = filter_at fs a.next
 
     new : FilterState
-    new = record (filter_at fs a.next) { accepted = Some (mark_of a) }
+    new = record (filter_at fs a.next) { accepted = Some (mark_announced a) }
 
     unmarked : (filter_at fs a.next).accepted ≡ None
-    unmarked = sound.heard a.next low ∙ cond-false (ltb a.next a.next) (Some (mark_of a)) None (le-ltb a.next a.next (omega arith))
+    unmarked = sound.heard a.next low ∙ cond-false (ltb a.next a.next) (Some (mark_announced a)) None (le-ltb a.next a.next (omega arith))
 
 -- A filter forgets its mark.
 pub open_tidy : (f : FilterState) → IsTidy f → IsTidy (record f { accepted = None })
@@ -117,7 +117,7 @@ open_tidy f tidy = record {
   reached_own = tidy.reached_own;
   reached_open = λ h some. refl;
   rising = tidy.rising;
-  fits = All-weaker (Fits f) (Fits (record f { accepted = None })) (λ r was. record { host = was.host; first = was.first; own = was.own }) f.held tidy.fits;
+  fits = All-weaker (FitsFilter f) (FitsFilter (record f { accepted = None })) (λ r was. record { host = was.host; first = was.first; own = was.own }) f.held tidy.fits;
   unpassed = tidy.unpassed;
 }
 
@@ -179,7 +179,7 @@ module _ (m : List (List Share)) (h mark : ℕ) where
   abbrev m_new : List (List Share)
   m_new = grown m h mark
 
-  abbrev at_mark : Option Mark
+  abbrev at_mark : Option AcceptedMark
   at_mark = Some (record { host = h; from = mark })
 
   -- the shares of a host in the grown map
@@ -269,9 +269,9 @@ module _ (m : List (List Share)) (h mark : ℕ) (f : FilterState) (fm : f.map �
     reached_own = λ g some. owned_same g (get_or f.reached g 0) some (omega arith) ∙ steady.tidy.reached_own g some;
     reached_open = λ g some. refl;
     rising = AllPairs-filter (λ (q r : Record). stands_before r.host r.toid q ≡ true) (is_own m_on f.number) f.held steady.tidy.rising;
-    fits = all_from_contains (Fits on) (filter (is_own m_on f.number) f.held) (λ r has.
+    fits = all_from_contains (FitsFilter on) (filter (is_own m_on f.number) f.held) (λ r has.
         let parts = Contains-filter (is_own m_on f.number) f.held r has in
-        let was = All-contains (Fits f) f.held r steady.tidy.fits parts.0 in record {
+        let was = All-contains (FitsFilter f) f.held r steady.tidy.fits parts.0 in record {
           host = omega (arith, was.host, ap (length {A = List Share}) fm, length-set m h (get_or m h [] ++ (record { start = mark; filters = (last_share m h).filters + 1 }) ∷ []));
           first = was.first;
           own = eqb-true (champion m_on r.host r.toid) f.number parts.1;
@@ -279,7 +279,7 @@ module _ (m : List (List Share)) (h mark : ℕ) (f : FilterState) (fm : f.map �
     unpassed = all_from_contains (λ (r : Record). is_passed on r.host r.toid ≡ false) (filter (is_own m_on f.number) f.held) (λ r has. false_from_ne_true (is_passed on r.host r.toid) (λ is.
         let parts = passed_parts on r.host r.toid is in
         let in_held = (Contains-filter (is_own m_on f.number) f.held r has).0 in
-        let own : owns f r.host r.toid ≡ true = own_is f r (All-contains (Fits f) f.held r steady.tidy.fits in_held) in
+        let own : owns f r.host r.toid ≡ true = own_is f r (All-contains (FitsFilter f) f.held r steady.tidy.fits in_held) in
         true≢false (sym (passed_from f r.host r.toid parts.0 parts.1 own) ∙ All-contains (λ (q : Record). is_passed f q.host q.toid ≡ false) f.held r steady.tidy.unpassed in_held)));
   }
 
@@ -323,7 +323,7 @@ module _ (m : List (List Share)) (h mark : ℕ) (f : FilterState) (fm : f.map �
             (All-filter (λ r. not (is_own m_on f.number r)) (λ (r : Record). Contains known (External r)) f.held (held_among f []));
       }
 
-pub activation_loses_nothing : (f : FilterState) (mark : Mark) → IsSteady f → f.accepted ≡ Some mark → LosesNothing f (λ _. 0) (handed_out (grown f.map mark.host mark.from) f) (items_of f ++ []) (activated (grown f.map mark.host mark.from) f)
+pub activation_loses_nothing : (f : FilterState) (mark : AcceptedMark) → IsSteady f → f.accepted ≡ Some mark → LosesNothing f (λ _. 0) (handed_out (grown f.map mark.host mark.from) f) (items_of f ++ []) (activated (grown f.map mark.host mark.from) f)
 activation_loses_nothing f mark steady marked = activate_loses_nothing f.map mark.host mark.from f refl marked steady
 
 -- what filters hand out is what they held
@@ -347,8 +347,8 @@ module _ (m : List (List Share)) (a : Announcement) (fs : List FilterState) (sou
   abbrev made : FilterState
   made = new_filter (length fs) m_grown
 
-  pub marked_at : (i : ℕ) (f : FilterState) → i < length fs → (get_or fs i f).accepted ≡ Some (mark_of a)
-  marked_at i f low = ap (λ (x : FilterState). x.accepted) (get_or_default fs i f no_filter low) ∙ sound.heard i low ∙ cond-true (ltb i a.next) (Some (mark_of a)) None (lt-ltb i a.next (omega arith))
+  pub marked_at : (i : ℕ) (f : FilterState) → i < length fs → (get_or fs i f).accepted ≡ Some (mark_announced a)
+  marked_at i f low = ap (λ (x : FilterState). x.accepted) (get_or_default fs i f no_filter low) ∙ sound.heard i low ∙ cond-true (ltb i a.next) (Some (mark_announced a)) None (lt-ltb i a.next (omega arith))
 
   pub all_activated : (P : Item → Type 0) → All (λ f. All (λ r. P (External r)) f.held) fs → All (λ f. All P f.out) fs → All (λ f. IsActivated m_grown f P (activated m_grown f)) fs
   all_activated P held out = λ i f low. activates m a.host a.mark (get_or fs i f) (sound.one_map i f low) (marked_at i f low) (sound.each i f low) P (held i f low) (out i f low)

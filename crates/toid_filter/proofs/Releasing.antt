@@ -11,10 +11,10 @@ use Rattle.causal_deps.specs.declared.record.Item.{Item}
 use Rattle.causal_deps.specs.declared.record.Item.TheVariants.{External}
 use Rattle.causal_deps.specs.Counts.{raised}
 use Rattle.causal_deps.proofs.Lists.{Contains-cons, Contains-filter, Contains-here, Contains-there}
-use Rattle.toid_filter.specs.declared.filter.Mark.{Mark}
+use Rattle.toid_filter.specs.declared.filter.AcceptedMark.{AcceptedMark}
 use Rattle.toid_filter.specs.declared.champions.Share.{Share}
 use Rattle.toid_filter.specs.Champions.{champion, grown}
-use Rattle.toid_filter.specs.Filters.{FilterState, activated, is_own, owns, is_passed, is_held, is_known, is_met, is_due, is_held_back, reached_by, is_free, cancelled, due, not_due, released, before_name, from_name, stands_before, with_held, Fits, IsNext, IsSteady, IsTidy}
+use Rattle.toid_filter.specs.Filters.{FilterState, activated, is_own, owns, is_passed, is_held, is_known, is_met, is_due, is_held_back, reached_by, is_free, cancelled, due, not_due, released, before_name, from_name, stands_before, with_held, FitsFilter, IsNext, IsSteady, IsTidy}
 use Rattle.toid_filter.proofs.Tests.{settled_from, all_from_contains, before_parts, before_from_host, before_from_toid, not_before, pairs_append, pairs_parts}
 use Rattle.toid_filter.proofs.FilterLemmas.{passed_parts, passed_from, held_parts, held_from, due_parts, due_from, free_from, met_gives, own_is}
 use Rattle.toid_filter.proofs.HeldLemmas.{Rising, filter_all, filter_none, two_parts}
@@ -46,8 +46,8 @@ module _ (on : FilterState) (h : ℕ) (tidy : IsTidy on) (opened : on.accepted �
   in_back : (d : Record) → Contains back d → Contains on.held d
   in_back d has = (Contains-filter (λ x. not (stands_before h first x)) on.held d has).0
 
-  fits_of : (d : Record) → Contains on.held d → Fits on d
-  fits_of d has = All-contains (Fits on) on.held d tidy.fits has
+  fits_of : (d : Record) → Contains on.held d → FitsFilter on d
+  fits_of d has = All-contains (FitsFilter on) on.held d tidy.fits has
 
   -- what is held of the host is above what was passed
   above : (d : Record) → Contains on.held d → d.host ≡ h → first ≤ d.toid
@@ -123,7 +123,7 @@ module _ (on : FilterState) (h : ℕ) (tidy : IsTidy on) (opened : on.accepted �
     unpassed : is_passed on q.host q.toid ≡ false
     unpassed = All-contains (λ (x : Record). is_passed on x.host x.toid ≡ false) on.held q tidy.unpassed q_held
 
-    pub next_fits : Fits left q
+    pub next_fits : FitsFilter left q
     next_fits = let was = fits_of q q_held in record { host = was.host; first = was.first; own = was.own }
 
     unheld : is_held left q.host q.toid ≡ false
@@ -161,7 +161,7 @@ module _ (on : FilterState) (h : ℕ) (tidy : IsTidy on) (opened : on.accepted �
         rising = pairs_append (λ (a s : Record). stands_before s.host s.toid a ≡ true) front rest front_rising rest_rising
             (all_from_contains (λ x. All (λ (s : Record). stands_before s.host s.toid x ≡ true) rest) front (λ x has. all_from_contains (λ (s : Record). stands_before s.host s.toid x ≡ true) rest (λ s late.
             front_before x s has (subst (λ xs. Contains xs s) (sym back_is) (Contains-there q rest s late)))));
-        fits = all_from_contains (Fits left) (front ++ rest) (λ d has. let was = fits_of d (in_left d has) in record { host = was.host; first = was.first; own = was.own });
+        fits = all_from_contains (FitsFilter left) (front ++ rest) (λ d has. let was = fits_of d (in_left d has) in record { host = was.host; first = was.first; own = was.own });
         unpassed = all_from_contains (λ (x : Record). is_passed left x.host x.toid ≡ false) (front ++ rest) (λ d has. All-contains (λ (x : Record). is_passed on x.host x.toid ≡ false) on.held d tidy.unpassed (in_left d has));
       };
       none_due = all_from_contains (λ d. is_due left d ≡ false) (front ++ rest) (λ d has. false_from_ne_true (is_due left d) (λ is.
@@ -284,8 +284,8 @@ module _ (on : FilterState) (h : ℕ) (tidy : IsTidy on) (opened : on.accepted �
   pub code_steady : IsSteady code
   code_steady = subst IsSteady (sym code_is) (next_steady on h tidy opened only q next)
 
-  pub code_fits : Fits code q
-  code_fits = subst (λ f. Fits f q) (sym code_is) (next_fits on h tidy opened only q next)
+  pub code_fits : FitsFilter code q
+  code_fits = subst (λ f. FitsFilter f q) (sym code_is) (next_fits on h tidy opened only q next)
 
   pub code_new : is_known code q.host q.toid ≡ false
   code_new = ap (λ f. is_known f q.host q.toid) code_is ∙ next_new on h tidy opened only q next
@@ -307,7 +307,7 @@ module _ (on : FilterState) (h : ℕ) (tidy : IsTidy on) (opened : on.accepted �
       omega (arith, ap (length {A = Record}) parts, length-append (before_name g t held) (from_name g t held))
 
   pub code_hosts : All (λ (r : Record). r.host < length on.reached) held
-  code_hosts = All-weaker (Fits code) (λ (r : Record). r.host < length on.reached) (λ r was. omega (arith, was.host, tidy.width)) held code_steady.tidy.fits
+  code_hosts = All-weaker (FitsFilter code) (λ (r : Record). r.host < length on.reached) (λ r was. omega (arith, was.host, tidy.width)) held code_steady.tidy.fits
 
   pub code_passes : (count : ℕ) (reached : List ℕ) (held' : List Record) (out' : List Item)
       → All (λ x. is_due (with_held code q) x ≡ true) (take count (from_name q.host q.toid held)) → All (λ x. is_due (with_held code q) x ≡ false) (drop count (from_name q.host q.toid held))
@@ -335,7 +335,7 @@ module _ (on : FilterState) (h : ℕ) (tidy : IsTidy on) (opened : on.accepted �
   still_released = still_is ∙ sym (none_released on h tidy opened only no_next)
 
 -- Without its mark: what is due then is of the mark's host.
-module _ (f : FilterState) (mark : Mark) (steady : IsSteady f) (marked : f.accepted ≡ Some mark) where
+module _ (f : FilterState) (mark : AcceptedMark) (steady : IsSteady f) (marked : f.accepted ≡ Some mark) where
   abbrev pub unmarked : FilterState
   unmarked = record f { accepted = None }
 
@@ -358,7 +358,7 @@ no_mark f steady none =
     ∙ ap (λ xs. record f { out = xs }) (append-nil f.out)
 
 -- With the map that grew at its mark: what is due then is of the mark's host.
-module _ (f : FilterState) (mark : Mark) (steady : IsSteady f) (marked : f.accepted ≡ Some mark) where
+module _ (f : FilterState) (mark : AcceptedMark) (steady : IsSteady f) (marked : f.accepted ≡ Some mark) where
   abbrev m_on : List (List Share)
   m_on = grown f.map mark.host mark.from
 
@@ -407,7 +407,7 @@ module _ (f : FilterState) (mark : Mark) (steady : IsSteady f) (marked : f.accep
     remapped_released = ap (λ hs. released (record f { map = m; accepted = None; held = hs })) held_is
 
 -- the map is the one that grew at the filter's own mark
-pub grown_at : (v w : FilterState) (mark other : Mark) (m : List (List Share)) → v ≡ w → v.accepted ≡ Some mark → w.accepted ≡ Some other → m ≡ grown w.map other.host other.from → m ≡ grown v.map mark.host mark.from
+pub grown_at : (v w : FilterState) (mark other : AcceptedMark) (m : List (List Share)) → v ≡ w → v.accepted ≡ Some mark → w.accepted ≡ Some other → m ≡ grown w.map other.host other.from → m ≡ grown v.map mark.host mark.from
 grown_at v w mark other m same marked else_marked is =
     let one : other ≡ mark = same_Some other mark (sym else_marked ∙ ap (λ (f : FilterState). f.accepted) (sym same) ∙ marked) in
-    is ∙ ap₂ (λ (f : FilterState) (k : Mark). grown f.map k.host k.from) (sym same) one
+    is ∙ ap₂ (λ (f : FilterState) (k : AcceptedMark). grown f.map k.host k.from) (sym same) one

@@ -14,7 +14,7 @@ use Rattle.causal_deps.specs.Counts.{raised}
 use Rattle.causal_deps.proofs.Lists.{Contains-cons, Contains-filter}
 use Rattle.toid_filter.specs.declared.filter.Verdict.TheVariants.{Passed, Held}
 use Rattle.toid_filter.specs.Champions.{champion, Serves}
-use Rattle.toid_filter.specs.Filters.{FilterState, owns, is_passed, is_held, is_known, all_below, is_done, is_met, is_held_back, is_free, is_due, due, not_due, reached_by, stands_before, before_name, from_name, named, with_held, IsTaken, Fits, Follows, IsSteady, IsSound}
+use Rattle.toid_filter.specs.Filters.{FilterState, owns, is_passed, is_held, is_known, all_below, is_done, is_met, is_held_back, is_free, is_due, due, not_due, reached_by, stands_before, before_name, from_name, named, with_held, IsTaken, FitsFilter, Follows, IsSteady, IsSound}
 use Rattle.toid_filter.proofs.Tests.{all_below_from, settled_gives, settled_from, before_parts, not_before, all_from_contains, pairs_parts}
 use Rattle.toid_filter.proofs.FilterLemmas.{passed_parts, passed_from, held_parts, held_from, due_parts, due_from, free_parts, met_gives, done_met, due_below, with_gives, with_keeps, with_has, met_more, due_before, taken_steady, steady_sound}
 use Rattle.toid_filter.proofs.HeldLemmas.{Rising, filter_all, filter_none, two_parts, first_named, first_after, still_from, next_left}
@@ -30,7 +30,7 @@ pub known_below : (f : FilterState) (h t : ℕ) → 1 ≤ t → owns f h t ≡ t
 known_below f h t some own low = or_left (is_passed f h t) (is_held f h t) (passed_from f h t some low own)
 
 -- an own number that was not passed is above the greatest that was
-pub above_reached : (f : FilterState) (r : Record) → Fits f r → is_passed f r.host r.toid ≡ false → get_or f.reached r.host 0 < r.toid
+pub above_reached : (f : FilterState) (r : Record) → FitsFilter f r → is_passed f r.host r.toid ≡ false → get_or f.reached r.host 0 < r.toid
 above_reached f r fits new = elim (cases_lt (get_or f.reached r.host 0) r.toid) [
   | inl low ↦ low
   | inr high ↦ absurd (true≢false (sym (passed_from f r.host r.toid fits.first high (eq-eqb (champion f.map r.host r.toid) f.number fits.own)) ∙ new))
@@ -66,7 +66,7 @@ pub record IsRunning (g : FilterState) (h first : ℕ) (back : List Record) (cou
   pub below : All (λ q. q.toid ≤ last) (take count back)
   pub above : All (λ q. q.host ≡ h → last < q.toid) (drop count back)
 
-module _ (f : FilterState) (r : Record) (steady : IsSteady f) (fits : Fits f r) (new : is_known f r.host r.toid ≡ false) (free : is_free f r ≡ true) where
+module _ (f : FilterState) (r : Record) (steady : IsSteady f) (fits : FitsFilter f r) (new : is_known f r.host r.toid ≡ false) (free : is_free f r ≡ true) where
   abbrev g : FilterState
   g = with_held f r
 
@@ -269,7 +269,7 @@ pub record IsWalking (f : FilterState) (r : Record) (left : List ((ℕ × ℕ) �
   pub within : count ≤ length (from_name r.host r.toid f.held)
   pub running : IsRunning (with_held f r) r.host r.toid (from_name r.host r.toid f.held) count last
 
-module _ (f : FilterState) (r : Record) (steady : IsSteady f) (fits : Fits f r) (new : is_known f r.host r.toid ≡ false) (free : is_free f r ≡ true) where
+module _ (f : FilterState) (r : Record) (steady : IsSteady f) (fits : FitsFilter f r) (new : is_known f r.host r.toid ≡ false) (free : is_free f r ≡ true) where
   abbrev behind : List Record
   behind = from_name r.host r.toid f.held
 
@@ -356,7 +356,7 @@ pub unheld_same : (v f : FilterState) (h t : ℕ) → v ≡ f → is_known f h t
 unheld_same v f h t same new = ap (λ (w : FilterState). is_held w h t) same ∙ (or_parts (is_passed f h t) (is_held f h t) new).1
 
 -- a record that may not pass is held at its place
-pub hold_taken : (v f : FilterState) (r : Record) (held : List Record) → v ≡ f → IsSteady v → Fits f r → is_known f r.host r.toid ≡ false → is_free f r ≡ false
+pub hold_taken : (v f : FilterState) (r : Record) (held : List Record) → v ≡ f → IsSteady v → FitsFilter f r → is_known f r.host r.toid ≡ false → is_free f r ≡ false
     → held ≡ before_name r.host r.toid v.held ++ r ∷ from_name r.host r.toid v.held → IsTaken f r Held (record v { held = held }) × IsSteady (record v { held = held })
 hold_taken v f r held same steady fits new unfree is =
     let f_steady : IsSteady f = subst IsSteady same steady in
@@ -368,7 +368,7 @@ hold_taken v f r held same steady fits new unfree is =
     both = is ∙ ap (λ (w : FilterState). before_name r.host r.toid w.held ++ r ∷ from_name r.host r.toid w.held) same
 
 -- a record that may pass passes, with those that follow
-pub pass_taken : (v f : FilterState) (r : Record) (count : ℕ) (first reached : List ℕ) (held : List Record) (early out : List Item) → v ≡ f → IsSteady v → Fits f r → is_known f r.host r.toid ≡ false → is_free f r ≡ true
+pub pass_taken : (v f : FilterState) (r : Record) (count : ℕ) (first reached : List ℕ) (held : List Record) (early out : List Item) → v ≡ f → IsSteady v → FitsFilter f r → is_known f r.host r.toid ≡ false → is_free f r ≡ true
     → All (λ q. is_due (with_held f r) q ≡ true) (take count (from_name r.host r.toid f.held)) → All (λ q. is_due (with_held f r) q ≡ false) (drop count (from_name r.host r.toid f.held))
     → first ≡ raised v.reached r.host r.toid → reached ≡ reached_by first (take count (from_name r.host r.toid v.held))
     → held ≡ before_name r.host r.toid v.held ++ drop count (from_name r.host r.toid v.held)
@@ -396,7 +396,7 @@ pass_taken v f r count first reached held early out same steady fits new free ru
 
 -- the hosts of held records are those of the map
 pub hosts_fit : (f : FilterState) (reached : List ℕ) (h t : ℕ) → IsSteady f → reached ≡ raised f.reached h t → All (λ q. q.host < length reached) f.held
-hosts_fit f reached h t steady at_reached = All-weaker (Fits f) (λ (q : Record). q.host < length reached) (λ q was. omega (arith, was.host, steady.tidy.width, ap length at_reached, raised_length f.reached h t)) f.held steady.tidy.fits
+hosts_fit f reached h t steady at_reached = All-weaker (FitsFilter f) (λ (q : Record). q.host < length reached) (λ q was. omega (arith, was.host, steady.tidy.width, ap length at_reached, raised_length f.reached h t)) f.held steady.tidy.fits
 
 -- the same filter with an equal held list
 pub sound_held : (f : FilterState) (held : List Record) → held ≡ f.held → IsSteady f → IsSound (record f { held = held })

@@ -14,7 +14,7 @@ use Rattle.toid_filter.specs.declared.champions.Share.{Share}
 use Rattle.toid_filter.specs.declared.filter.Verdict.{Verdict}
 use Rattle.toid_filter.specs.declared.filter.Verdict.TheVariants.{Passed, Held, Dropped}
 use Rattle.toid_filter.specs.Champions.{champion}
-use Rattle.toid_filter.specs.Filters.{FilterState, Announcement, no_filter, filter_at, is_passed, is_held, is_known, is_free, times_passed, times_held, is_due, due, released, stands_before, before_name, from_name, with_held, with_record, with_item, IsTaken, Fits, IsTidy, IsSteady, AreSound}
+use Rattle.toid_filter.specs.Filters.{FilterState, Announcement, no_filter, filter_at, is_passed, is_held, is_known, is_free, times_passed, times_held, is_due, due, released, stands_before, before_name, from_name, with_held, with_record, with_item, IsTaken, FitsFilter, IsTidy, IsSteady, AreSound}
 use Rattle.toid_filter.specs.Sums.{is_named, items_of, in_held, in_out, passed, added_by, LosesNothing}
 use Rattle.toid_filter.proofs.Tests.{name_from}
 use Rattle.toid_filter.proofs.FilterLemmas.{held_parts, tidy_with, taken_steady, steady_out}
@@ -82,7 +82,7 @@ pub nothing_taken : (f : FilterState) (P : Item → Type 0) → All (λ y. P (Ex
 nothing_taken f P held out = record { number = refl; map = refl; accepted = refl; sums = λ g. omega arith; passing = λ h t. refl; held = held; out = out }
 
 -- a record is taken, by its verdict
-pub verdict_takes : (f : FilterState) (r : Record) (v : Verdict) (g : FilterState) (P : Item → Type 0) → IsSteady f → Fits f r → IsTaken f r v g → All (λ y. P (External y)) f.held → All P f.out → P (External r) → HasTaken f (added_by v r) P g
+pub verdict_takes : (f : FilterState) (r : Record) (v : Verdict) (g : FilterState) (P : Item → Type 0) → IsSteady f → FitsFilter f r → IsTaken f r v g → All (λ y. P (External y)) f.held → All P f.out → P (External r) → HasTaken f (added_by v r) P g
 verdict_takes f r Dropped g P steady fits took held out here = subst (HasTaken f (λ _. 0) P) (sym took.1) (nothing_taken f P held out)
 verdict_takes f r Held g P steady fits took held out here = subst (HasTaken f (λ m. m (External r)) P) (sym took.2) (held_takes f r P held out here)
 verdict_takes f r Passed g P steady fits took held out here = subst (HasTaken f (λ m. m (External r)) P) (sym took.2)
@@ -119,7 +119,7 @@ pub all_items : (P : Item → Type 0) (g : FilterState) (given : List Record) �
 all_items P g given held out gone = All-append P (items_of g) (map External given) (All-append P (map External g.held) g.out (All-map P External g.held held) out) (All-map P External given gone)
 
 -- taking a record loses nothing
-pub take_loses_nothing : (f : FilterState) (r : Record) (v : Verdict) (g : FilterState) → IsSteady f → Fits f r → IsTaken f r v g → LosesNothing f (added_by v r) [] (items_of f ++ External r ∷ []) g
+pub take_loses_nothing : (f : FilterState) (r : Record) (v : Verdict) (g : FilterState) → IsSteady f → FitsFilter f r → IsTaken f r v g → LosesNothing f (added_by v r) [] (items_of f ++ External r ∷ []) g
 take_loses_nothing f r v g steady fits took =
     let known : List Item = items_of f ++ External r ∷ [] in
     let here : Contains known (External r) = Contains-append_right (items_of f) (External r ∷ []) (External r) (Contains-here (External r) []) in
@@ -214,7 +214,7 @@ record_verdict f r = elim (is_known f r.host r.toid) as (λ b. is_known f r.host
 ] refl
 
 -- a record is known and changes nothing, or the filter has it then
-pub record_takes : (f : FilterState) (r : Record) (P : Item → Type 0) → IsSteady f → Fits f r → All (λ y. P (External y)) f.held → All P f.out → P (External r)
+pub record_takes : (f : FilterState) (r : Record) (P : Item → Type 0) → IsSteady f → FitsFilter f r → All (λ y. P (External y)) f.held → All P f.out → P (External r)
     → ((is_known f r.host r.toid ≡ true) × (with_record f r ≡ f)) ⊎ (IsSteady (with_record f r) × HasTaken f (λ g. g (External r)) P (with_record f r))
 record_takes f r P steady fits held out here = by_verdict (record_verdict f r).0 (record_verdict f r).1
   where
@@ -232,7 +232,7 @@ module _ (m : List (List Share)) (a : Option Announcement) (fs : List FilterStat
   draft_sound i low draft = out_sound i low ((filter_at fs i).out ++ Local draft ∷ [])
 
   -- a record fits its champion
-  pub champion_fits : (r : Record) → r.host < length m → 1 ≤ r.toid → Fits (filter_at fs (champion m r.host r.toid)) r
+  pub champion_fits : (r : Record) → r.host < length m → 1 ≤ r.toid → FitsFilter (filter_at fs (champion m r.host r.toid)) r
   champion_fits r host first =
       let low : champion m r.host r.toid < length fs = sound.there r.host r.toid in
       let one_map = sound.one_map (champion m r.host r.toid) no_filter low in record {

@@ -6,7 +6,7 @@ use Rattle.std.proofs.lemmas.List.Elements.{All-head, All-tail, All-append, Cont
 use Rattle.std.proofs.lemmas.List.Kept.{AllPairs-cons}
 use Rattle.causal_deps.specs.declared.record.Record.{Record}
 use Rattle.causal_deps.proofs.Lists.{Contains-cons, Contains-here, Contains-there}
-use Rattle.toid_filter.specs.declared.filter.Mark.{Mark}
+use Rattle.toid_filter.specs.declared.filter.AcceptedMark.{AcceptedMark}
 use Rattle.toid_filter.specs.Filters.{all_below, has_name, is_held_back, stands_before}
 
 pub all_below_at : (test : ℕ → Bool) (t u : ℕ) → all_below test t ≡ true → u < t → test u ≡ true
@@ -86,7 +86,7 @@ before_trans q r h t first second = elim (before_parts r.host r.toid q first) [
 ]
 
 -- a mark that does not hold a number back does not hold a smaller one back
-pub held_back_below : (mark : Option Mark) (h t u : ℕ) → is_held_back mark h t ≡ false → u ≤ t → is_held_back mark h u ≡ false
+pub held_back_below : (mark : Option AcceptedMark) (h t u : ℕ) → is_held_back mark h t ≡ false → u ≤ t → is_held_back mark h u ≡ false
 held_back_below None h t u is low = refl
 held_back_below (Some mark) h t u is low = elim (and_cases (eqb mark.host h) (leb mark.from t) is) [
   | inl other ↦ and_left (eqb mark.host h) (leb mark.from u) other

@@ -6,7 +6,7 @@ use Rattle.causal_deps.specs.declared.record.Item.{Item}
 use Rattle.causal_deps.specs.declared.record.Item.TheVariants.{Local, External}
 use Rattle.causal_deps.specs.Counts.{raised}
 use Rattle.toid_filter.specs.declared.champions.Share.{Share}
-use Rattle.toid_filter.specs.declared.filter.Mark.{Mark}
+use Rattle.toid_filter.specs.declared.filter.AcceptedMark.{AcceptedMark}
 use Rattle.toid_filter.specs.declared.filter.Accept.{Accept}
 use Rattle.toid_filter.specs.declared.filter.Accept.TheVariants.{Accepted, Late}
 use Rattle.toid_filter.specs.declared.filter.Verdict.{Verdict}
@@ -23,7 +23,7 @@ pub record FilterState : Type 0 where
   pub reached : List ℕ
   pub held : List Record
   pub out : List Item
-  pub accepted : Option Mark
+  pub accepted : Option AcceptedMark
 
 -- a filter that has nothing
 abbrev pub new_filter : ℕ → List (List Share) → FilterState
@@ -69,7 +69,7 @@ abbrev pub is_met : FilterState → ℕ → ℕ → Bool
 is_met f h t = (t == 0) || (not (owns f h t) || is_known f h t)
 
 -- an accepted mark of the host is at or below the number
-abbrev pub is_held_back : Option Mark → ℕ → ℕ → Bool
+abbrev pub is_held_back : Option AcceptedMark → ℕ → ℕ → Bool
 is_held_back None h t = false
 is_held_back (Some mark) h t = (mark.host == h) && nat_le mark.from t
 
@@ -131,7 +131,7 @@ IsTaken f r Held g = (is_known f r.host r.toid ≡ false) × (is_free f r ≡ fa
 IsTaken f r Passed g = (is_known f r.host r.toid ≡ false) × (is_free f r ≡ true) × (g ≡ released (with_held f r))
 
 -- a record that the filter may take: a number of its own, of a host that there is
-pub record Fits (f : FilterState) (r : Record) : Type 0 where
+pub record FitsFilter (f : FilterState) (r : Record) : Type 0 where
   pub host : r.host < length f.map
   pub first : 1 ≤ r.toid
   pub own : champion f.map r.host r.toid ≡ f.number
@@ -152,7 +152,7 @@ pub record IsTidy (f : FilterState) : Type 0 where
   pub reached_own : (h : ℕ) → 1 ≤ slice_index f.reached h → owns f h (slice_index f.reached h) ≡ true
   pub reached_open : (h : ℕ) → 1 ≤ slice_index f.reached h → is_held_back f.accepted h (slice_index f.reached h) ≡ false
   pub rising : AllPairs (λ q r. stands_before r.host r.toid q ≡ true) f.held
-  pub fits : All (Fits f) f.held
+  pub fits : All (FitsFilter f) f.held
   pub unpassed : All (λ r. is_passed f r.host r.toid ≡ false) f.held
 
 -- what a filter keeps between its calls; by it the filter is sound
@@ -184,7 +184,7 @@ pub record Announcement : Type 0 where
   pub next : ℕ
 
 -- the mark that filter i has accepted: the filters before the next one have heard it
-abbrev pub mark_accepted : Option Announcement → ℕ → Option Mark
+abbrev pub mark_accepted : Option Announcement → ℕ → Option AcceptedMark
 mark_accepted None i = None
 mark_accepted (Some a) i = if nat_lt i a.next then Some (record { host = a.host; from = a.mark }) else None
 

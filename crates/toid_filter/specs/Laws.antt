@@ -6,14 +6,14 @@ use Rattle.causal_deps.specs.declared.record.Item.TheVariants.{External}
 use Rattle.toid_filter.specs.declared.champions.Share.{Share}
 use Rattle.toid_filter.specs.declared.filter.Verdict.{Verdict}
 use Rattle.toid_filter.specs.Champions.{champion}
-use Rattle.toid_filter.specs.Filters.{FilterState, owns, is_passed, is_known, is_held_back, has_name, times_passed, IsTaken, Fits, filter_at}
+use Rattle.toid_filter.specs.Filters.{FilterState, owns, is_passed, is_known, is_held_back, has_name, times_passed, IsTaken, FitsFilter, filter_at}
 
 -- a filter takes records of its own one after another
 abbrev pub AreTaken : FilterState → List Record → List Verdict → FilterState → Type 0
 AreTaken f [] [] g = g ≡ f
 AreTaken f [] (v ∷ vs) g = ⊥
 AreTaken f (r ∷ rs) [] g = ⊥
-AreTaken f (r ∷ rs) (v ∷ vs) g = (next : FilterState) × Fits f r × IsTaken f r v next × AreTaken next rs vs g
+AreTaken f (r ∷ rs) (v ∷ vs) g = (next : FilterState) × FitsFilter f r × IsTaken f r v next × AreTaken next rs vs g
 
 -- the filters after one of them was changed
 abbrev pub with_filter : List FilterState → ℕ → FilterState → List FilterState
@@ -23,7 +23,7 @@ with_filter fs i f = slice_set fs i f
 abbrev pub AreTakenByChampions : List (List Share) → List FilterState → List Record → List FilterState → Type 0
 AreTakenByChampions map fs [] gs = gs ≡ fs
 AreTakenByChampions map fs (r ∷ rs) gs =
-    (v : Verdict) × (next : FilterState) × Fits (filter_at fs (champion map r.host r.toid)) r × IsTaken (filter_at fs (champion map r.host r.toid)) r v next
+    (v : Verdict) × (next : FilterState) × FitsFilter (filter_at fs (champion map r.host r.toid)) r × IsTaken (filter_at fs (champion map r.host r.toid)) r v next
     × AreTakenByChampions map (with_filter fs (champion map r.host r.toid) next) rs gs
 
 -- Between two states a filter passed these records: they are what its out list gained, each number of a host is above those

@@ -5,8 +5,8 @@ ghost use Rattle.std.specs.List.{AllPairs};
 ghost use Rattle.std.specs.Option.{ForSome};
 ghost use Rattle.causal_deps.specs.declared.record.Item.TheVariants.{Local, External};
 ghost use Rattle.toid_filter.specs.Champions.{grown};
-ghost use Rattle.toid_filter.specs.declared.filter.Mark.{Mark as MarkValue};
-ghost use Rattle.toid_filter.specs.Filters.{accept_told, accepted_by, activated, before_name, cancelled, handed_out, from_name, is_due, is_free, is_held_back, is_known, is_passed, new_filter, owns, reached_by, stands_before, with_held, Fits, Follows, IsSound, IsSteady, IsTaken};
+ghost use Rattle.toid_filter.specs.declared.filter.AcceptedMark.{AcceptedMark as MarkValue};
+ghost use Rattle.toid_filter.specs.Filters.{accept_told, accepted_by, activated, before_name, cancelled, handed_out, from_name, is_due, is_free, is_held_back, is_known, is_passed, new_filter, owns, reached_by, stands_before, with_held, FitsFilter, Follows, IsSound, IsSteady, IsTaken};
 
 use crate::Champions;
 use crate::held::Held;
@@ -19,7 +19,7 @@ use std::mem;
 
 /// From number `from` of a host on, one filter more is to serve that host.
 #[derive(Clone, Copy, Debug, PartialEq, Eq)]
-pub struct Mark {
+pub struct AcceptedMark {
     /// The host whose numbers are meant.
     pub host: DcId,
     /// The first number that the new filter may serve.
@@ -55,7 +55,7 @@ pub struct Filter {
     reached: Counts,
     held: Held,
     out: Vec<Item>,
-    accepted: Option<Mark>,
+    accepted: Option<AcceptedMark>,
 }
 
 impl Model for Filter {
@@ -95,7 +95,7 @@ impl Filter {
 
     /// Whether the filter may take the record: it is a number of its own, of a host that there is.
     pub fn fits(&self, rec: &Record) -> bool
-        ensures tells { IsTrue result ↔ Fits self.now rec.now }
+        ensures tells { IsTrue result ↔ FitsFilter self.now rec.now }
         ensures steady { IsSteady self.now }
         ensures sound { IsSound self.now }
     {
@@ -105,7 +105,7 @@ impl Filter {
     /// Passes, holds or drops a record. After want of memory the filter is as before, and the record
     /// comes back.
     pub fn take(&mut self, rec: Record) -> Result<Verdict, Back<Record>>
-        requires { Fits self.old rec }
+        requires { FitsFilter self.old rec }
         ensures ok { IfOk result (λ verdict. IsTaken self.old rec verdict self.new) }
         ensures err { OnErr result (self.new ≡ self.old) }
         ensures back { IfErr result (λ back. back.value ≡ rec) }
@@ -148,7 +148,7 @@ impl Filter {
         if passed >= 1 && passed >= mark {
             return Accept::Late { passed };
         }
-        self.accepted = Some(Mark {
+        self.accepted = Some(AcceptedMark {
             host: h,
             from: mark,
         });
@@ -224,7 +224,7 @@ impl Filter {
 
     /// Whether each smaller own number was passed, and no accepted mark holds the record back.
     fn may_pass(&self, rec: &Record) -> bool
-        requires fits { Fits self.now rec.now }
+        requires fits { FitsFilter self.now rec.now }
         requires new { is_passed self.now rec.now.host rec.now.toid ≡ false }
         ensures { result ≡ is_free self.now rec.now }
     {
@@ -245,7 +245,7 @@ impl Filter {
 
     /// Passes a record that may pass, with the held ones that follow on it.
     fn pass(&mut self, rec: Record) -> Result<Verdict, Back<Record>>
-        requires fits { Fits self.old rec }
+        requires fits { FitsFilter self.old rec }
         requires new { is_known self.old rec.host rec.toid ≡ false }
         requires free { is_free self.old rec ≡ true }
         ensures ok { IfOk result (λ verdict. IsTaken self.old rec verdict self.new) }
@@ -273,7 +273,7 @@ impl Filter {
 
     /// How many of the held records from a new one on are due once that one passes.
     fn due_count(&self, rec: &Record) -> usize
-        requires fits { Fits self.now rec.now }
+        requires fits { FitsFilter self.now rec.now }
         requires new { is_known self.now rec.now.host rec.now.toid ≡ false }
         requires free { is_free self.now rec.now ≡ true }
         ensures few { result < 2 ^ 63 }

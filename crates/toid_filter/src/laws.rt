@@ -4,10 +4,10 @@ ghost use Rattle.causal_deps.specs.declared.record.Record.{Record};
 ghost use Rattle.causal_deps.specs.declared.record.Draft.{Draft};
 ghost use Rattle.causal_deps.specs.declared.record.Item.TheVariants.{Local, External};
 ghost use Rattle.toid_filter.specs.declared.champions.Share.{Share};
-ghost use Rattle.toid_filter.specs.declared.filter.Mark.{Mark};
+ghost use Rattle.toid_filter.specs.declared.filter.AcceptedMark.{AcceptedMark};
 ghost use Rattle.toid_filter.specs.declared.filter.Verdict.{Verdict};
 ghost use Rattle.toid_filter.specs.Champions.{first_map, grown, last_share};
-ghost use Rattle.toid_filter.specs.Filters.{FilterState, Announcement, activated, cancelled, filter_at, handed_out, is_known, is_past, new_filter, times_passed, with_item, with_record, AreSound, Fits, IsSound, IsSteady, IsTaken};
+ghost use Rattle.toid_filter.specs.Filters.{FilterState, Announcement, activated, cancelled, filter_at, handed_out, is_known, is_past, new_filter, times_passed, with_item, with_record, AreSound, FitsFilter, IsSound, IsSteady, IsTaken};
 ghost use Rattle.toid_filter.specs.Marks.{accepted_next, asked_next, filters_grown, grown_by};
 ghost use Rattle.toid_filter.specs.Sums.{added_by, items_of, LosesNothing};
 ghost use Rattle.toid_filter.specs.Growth.{Filtering, AreSoundTogether, GoOn, HaveGained};
@@ -73,7 +73,7 @@ pub fn champions_lose_nothing()
 /// Taking a record loses nothing: by every measure of items what the filter holds and passed on grows by the record, and
 /// by nothing where it was dropped; and it passes on one record for each number that it passes.
 pub fn taking_loses_nothing()
-    ensures { (f g : FilterState) (r : Record) (v : Verdict) → IsSteady f → Fits f r → IsTaken f r v g → LosesNothing f (added_by v r) [] (items_of f ++ External r ∷ []) g }
+    ensures { (f g : FilterState) (r : Record) (v : Verdict) → IsSteady f → FitsFilter f r → IsTaken f r v g → LosesNothing f (added_by v r) [] (items_of f ++ External r ∷ []) g }
 {}
 
 /// Passing on a draft adds the draft, and nothing else.
@@ -88,7 +88,7 @@ pub fn cancelling_loses_nothing()
 
 /// Taking the map that grew at the accepted mark loses nothing: what the filter does not own by it is handed out.
 pub fn activating_loses_nothing()
-    ensures { (f : FilterState) (mark : Mark) → IsSteady f → f.accepted ≡ Some mark → LosesNothing f (λ _. 0) (handed_out (grown f.map mark.host mark.from) f) (items_of f ++ []) (activated (grown f.map mark.host mark.from) f) }
+    ensures { (f : FilterState) (mark : AcceptedMark) → IsSteady f → f.accepted ≡ Some mark → LosesNothing f (λ _. 0) (handed_out (grown f.map mark.host mark.from) f) (items_of f ++ []) (activated (grown f.map mark.host mark.from) f) }
 {}
 
 /// The filters stay sound when one filter more is announced for a host.

@@ -29,7 +29,7 @@ mod laws;
 mod leaving;
 
 pub use champions::{Champions, Share};
-pub use filter::{Accept, Filter, Mark, Verdict};
+pub use filter::{Accept, AcceptedMark, Filter, Verdict};
 pub use laws::{
     accepting_keeps_filters_sound, activating_keeps_filters_sound, activating_loses_nothing,
     announcing_keeps_filters_sound, cancelling_keeps_filters_sound, cancelling_loses_nothing,

@@ -8,19 +8,19 @@ use Rattle.flstore_service.specs.Meaning.{script_of as flscript_of}
 use Rattle.flstore_service.specs.Running.{run_of}
 use Rattle.flstore_service.specs.Text.{run_text}
 use Rattle.command_line.specs.declared.task.Form.{Form}
-use Rattle.top_calls.specs.declared.replaying.Told.{Told}
+use Rattle.top_calls.specs.declared.replaying.ReportedRun.{ReportedRun}
 use Rattle.top_calls.specs.Ending.{IsRunOf, WasRead, text_of}
 
 -- The script was replayed, and this is the report of its run in this form.
-pub record IsTold (form : Form) (script : Script) (told : Told) : Type 0 where
+pub record IsReportedRun (form : Form) (script : Script) (told : ReportedRun) : Type 0 where
   pub run : IsRunOf script told.run told.stages
   pub text : told.text.items ≡ text_of form told.run told.stages
 
 -- It is so of the script that the source had left.
-pub record IsToldOfSource (form : Form) (old new : Option (List ℕ)) (before now : ℕ) (told : Told) : Type 0 where
+pub record IsReportedRunOfSource (form : Form) (old new : Option (List ℕ)) (before now : ℕ) (told : ReportedRun) : Type 0 where
   pub script : Script
   pub read : WasRead script_of old new before now script
-  pub report : IsTold form script told
+  pub report : IsReportedRun form script told
 
 -- The source had the script of a log by itself, and this is the text of its run.
 pub record IsStoredOfSource (old new : Option (List ℕ)) (before now : ℕ) (text : List ℕ) : Type 0 where

@@ -6,7 +6,7 @@ ghost use Rattle.abstract_log.specs.Runs.{IsRun, world_of};
 ghost use Rattle.abstract_log.specs.Turns.{FitsStep};
 ghost use Rattle.script_text.specs.Meaning.{script_of};
 ghost use Rattle.top_calls.specs.Ending.{EndsReport, IsRefusedFor, WasRead, WritesFront, text_of};
-ghost use Rattle.top_calls.specs.Telling.{IsTold, IsToldOfSource};
+ghost use Rattle.top_calls.specs.Telling.{IsReportedRun, IsReportedRunOfSource};
 
 use crate::done::{Done, Refusal, bad_line, write_report};
 use crate::reading::read_whole;
@@ -21,7 +21,7 @@ use world::Played;
 
 /// A run, the turns that brought it, and its report.
 #[derive(Drop)]
-pub struct Told {
+pub struct ReportedRun {
     /// The events, and the workload that they answer.
     pub run: Run,
     /// A line for each turn, but the idle ones of settling.
@@ -35,8 +35,8 @@ pub fn read_and_replay<S: Source>(
     alloc: Global,
     form: Form,
     source: &mut S,
-) -> Result<Told, Refusal>
-    ensures ok { IfOk result (IsToldOfSource form (S.left source.old) (S.left source.new) (S.faults source.old) (S.faults source.new)) }
+) -> Result<ReportedRun, Refusal>
+    ensures ok { IfOk result (IsReportedRunOfSource form (S.left source.old) (S.left source.new) (S.faults source.old) (S.faults source.new)) }
     ensures refused { IfErr result (IsRefusedFor script_of (S.left source.old) (S.left source.new) (S.faults source.old) (S.faults source.new)) }
 {
     let script = read(alloc, source)?;
@@ -62,17 +62,17 @@ fn read<S: Source>(alloc: Global, source: &mut S) -> Result<Script, Refusal>
 }
 
 /// Replays a script and makes its report.
-pub fn tell(alloc: Global, form: Form, script: Script) -> Result<Told, NoMemory>
+pub fn tell(alloc: Global, form: Form, script: Script) -> Result<ReportedRun, NoMemory>
     requires fits { FitsScript script }
     requires steps { All (FitsStep script.workload) script.steps }
-    ensures { IfOk result (IsTold form script) }
+    ensures { IfOk result (IsReportedRun form script) }
 {
     let played = world::replay(alloc, &script)?;
     // The run has all of it that the report tells.
     drop(script);
     let Played { run, stages, left } = played;
     let text = text_in(alloc, form, &run, &stages, &left)?;
-    Ok(Told { run, stages, text })
+    Ok(ReportedRun { run, stages, text })
 }
 
 // The report of a run in a form.
@@ -97,13 +97,13 @@ fn text_in(
 }
 
 /// Writes the report, as far as the sink takes it.
-pub fn report<K: Sink>(told: Told, sink: &mut K) -> Done
+pub fn report<K: Sink>(told: ReportedRun, sink: &mut K) -> Done
     ensures run { result.run ≡ Some told.run }
     ensures stages { result.stages ≡ Some told.stages }
     ensures front { WritesFront (K.written sink.old) (K.written sink.new) (K.faults sink.old) (K.faults sink.new) told.text.items }
     ensures status { EndsReport (K.written sink.old) (K.written sink.new) (K.faults sink.old) (K.faults sink.new) told.text.items result.status }
 {
-    let Told { run, stages, text } = told;
+    let ReportedRun { run, stages, text } = told;
     Done {
         status: write_report(sink, &text),
         run: Some(run),

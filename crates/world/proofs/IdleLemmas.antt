@@ -8,7 +8,7 @@ use Rattle.abstract_log.specs.declared.script.Step.{Step}
 use Rattle.stage_world.specs.Stages.{Datacentre, Stages}
 use Rattle.stage_world.specs.Turns.{Turned}
 use Rattle.stage_world.specs.LinkTurns.{moved_at}
-use Rattle.abstract_log.specs.Turns.{place_of_step}
+use Rattle.abstract_log.specs.Turns.{datacentre_of_step}
 use Rattle.stage_world.specs.Schedules.{step_of, turn_of}
 use Rattle.stage_world.specs.Whole.{datacentre_at, nowhere_at}
 use Rattle.stage_world.specs.Idle.{TellsChange, apart_from_epochs}
@@ -16,7 +16,7 @@ use Rattle.world.specs.Showing.{TellsIdle, uses_link}
 use Rattle.world.proofs.MovingLemmas.{own_is}
 
 -- a step of a stage of one datacentre is idle where the datacentre is as it was
-module _ (load : Workload) (z : Stages) (step : Step) (d : ℕ) (own : uses_link step ≡ false) (at : d ≡ place_of_step load step) (within : d < length z.datacentres) where
+module _ (load : Workload) (z : Stages) (step : Step) (d : ℕ) (own : uses_link step ≡ false) (at : d ≡ datacentre_of_step load step) (within : d < length z.datacentres) where
   abbrev zs : List Datacentre
   zs = z.datacentres
 

@@ -17,7 +17,7 @@ use Rattle.stage_world.specs.MoreTurns.{message_of, same_counts}
 use Rattle.stage_world.specs.Settling.{Errand, below, errands, has_unanswered, is_unanswered}
 use Rattle.datacentre.specs.Seen.{DatacentreState, StandsForALog}
 use Rattle.world.specs.Settled.{AreKnown, IsKnown, errands_from}
-use Rattle.world.specs.Taking.{HasTaken, IsTaken, StagesState, Taken, stages_after}
+use Rattle.world.specs.Taking.{HasTaken, HaveTakenTurns, StagesState, TakenTurn, stages_after}
 use Rattle.world.proofs.NetworkLemmas.{length-states, states_at}
 use Rattle.world.proofs.TakingLemmas.{run_of}
 use Rattle.world.proofs.RoundLemmas.{take_all}
@@ -55,7 +55,7 @@ module _ (z : Stages) (xs : List DatacentreState) (known : AreKnown z xs) where
         log = record { world = known.world; lawful = known.lawful; stands = known.stands.each d (omega (arith, inside, known.stands.size)) };
       }
 
-pub known_of : (script : Script) (ts : List Taken) (s : StagesState) → HasTaken script ts s → AreKnown (stages_after script ts) s.network.datacentres
+pub known_of : (script : Script) (ts : List TakenTurn) (s : StagesState) → HasTaken script ts s → AreKnown (stages_after script ts) s.network.datacentres
 known_of script ts s h =
     let run = run_of script ts s h in
     record {
@@ -66,7 +66,7 @@ known_of script ts s h =
       few = omega (arith, h.shown.count, h.fits.limits.workload.few);
     }
 
-pub known_some : (s : StagesState) → IsTaken s → (z : Stages) × AreKnown z s.network.datacentres
+pub known_some : (s : StagesState) → HaveTakenTurns s → (z : Stages) × AreKnown z s.network.datacentres
 known_some s h = (stages_after h.script h.turns, known_of h.script h.turns s h.taken)
 
 -- Tests of each of them, one after another: what is known of the first so many, and of all
@@ -157,10 +157,10 @@ errands_are z d i dcs sizes same is = ap (λ (s : Sizes). errands_from d dcs s.s
 
 -- Stages that have taken turns
 
-pub few_dcs : (s : StagesState) → IsTaken s → s.workload.dcs ≤ 8
+pub few_dcs : (s : StagesState) → HaveTakenTurns s → s.workload.dcs ≤ 8
 few_dcs s h = subst (λ (l : Workload). l.dcs ≤ 8) (sym h.taken.workload) h.taken.fits.limits.workload.few
 
-pub count_there : (s : StagesState) → IsTaken s → length s.network.datacentres ≡ s.workload.dcs
+pub count_there : (s : StagesState) → HaveTakenTurns s → length s.network.datacentres ≡ s.workload.dcs
 count_there s h =
     let known = known_of h.script h.turns s h.taken in
     count_known (stages_after h.script h.turns) s.network.datacentres known ∙ h.taken.shown.count ∙ ap (λ (l : Workload). l.dcs) (sym h.taken.workload)

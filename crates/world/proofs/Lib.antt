@@ -14,3 +14,4 @@ pub mod SettlingLemmas
 pub mod SettledLemmas
 pub mod NearerLemmas
 pub mod ReplayLemmas
+pub mod FullLemmas

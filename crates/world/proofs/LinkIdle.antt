@@ -1,15 +1,14 @@
 -- Which turns that use a link are idle.
 --
--- What is proved: it is told that a link changed exactly where its messages did, though the code compares packets alone. The
--- step from packets to messages is the law that two messages with the same bytes are one. By cases of the turn.
--- The theorems are `sent_told`, `delivered_told`, `lost_told` and `copied_told`.
-use Rattle.std.proofs.Common.{◌≡◌, ◌≢◌, ℕ, zero, suc, ◌+◌, ◌<◌, ◌≤◌, ◌++◌, ltb, is_some, Bool, true, false, List, [], ◌∷◌, length, map, drop, get_or, set, refl, ap, ap₂, sym, ◌∙◌, subst, arith, Option, Some, None}
-use Rattle.std.specs.List.{All}
-use Rattle.std.specs.Option.{ForSome, option_map, option_map_or}
-use Rattle.std.proofs.lemmas.Bool.{cond_both, cond-true, cond-false, lt-ltb, le-ltb}
-use Rattle.std.proofs.lemmas.List.{append-nil, get_or-set_same, set-get_or}
+-- What is proved: it is told that a link changed exactly where its messages did. What a put or a copy does to the messages of one link is
+-- told by the code that compares them; here it is among all stages. By cases of the turn.
+-- The theorems are `sent_tells`, `delivered_told`, `lost_told` and `copied_tells`.
+use Rattle.std.proofs.Common.{◌≡◌, ◌≢◌, ℕ, zero, suc, ◌<◌, ◌≤◌, ltb, is_some, Bool, true, false, List, [], length, map, get_or, set, refl, ap, sym, ◌∙◌, subst, arith, Option, Some, None, Result, Ok, Err, IfOk}
+use Rattle.std.specs.Option.{ForSome, option_map_or}
+use Rattle.std.proofs.lemmas.Bool.{cond-true, cond-false, lt-ltb, le-ltb}
+use Rattle.std.proofs.lemmas.List.{get_or-set_same, set-get_or}
 use Rattle.std.proofs.lemmas.List.Edits.{length-remove}
-use Rattle.std.proofs.lemmas.List.Elements.{All-append, All-cons, All-contains, All-drop, All-get_or, All-head, All-nil, All-tail}
+use Rattle.std.proofs.lemmas.List.Elements.{All-get_or}
 use Rattle.std.proofs.lemmas.Option.{slice_get_within}
 use Rattle.abstract_log.specs.declared.command.Workload.{Workload}
 use Rattle.abstract_log.specs.declared.script.Outcome.{Outcome}
@@ -17,10 +16,9 @@ use Rattle.abstract_log.specs.declared.script.Outcome.TheVariants.{Absent, Copie
 use Rattle.abstract_log.specs.declared.script.Step.{Step}
 use Rattle.abstract_log.specs.declared.script.Step.TheVariants.{Send, Deliver, Lose, Copy}
 use Rattle.lossy_links.specs.Links.{copied, message_at, put_last, without}
-use Rattle.lossy_links.proofs.Carried.{in_taken}
 use Rattle.record_codec.specs.declared.message.Message.{Message}
-use Rattle.record_codec.specs.Wire.{SpellsMessage, message_bytes}
-use Rattle.record_codec.proofs.Wholes.{message_law}
+use Rattle.record_codec.specs.Wire.{SpellsMessage}
+use Rattle.sender_receiver.specs.Sending.{form_of}
 use Rattle.stage_world.specs.Stages.{Datacentre, Stages}
 use Rattle.stage_world.specs.LinkTurns.{deliver_turn, has_lost, link_length, moved_at, put_in_link, send_turn, still, with_link}
 use Rattle.stage_world.specs.MoreTurns.{message_of, names_of, receive_turn}
@@ -30,52 +28,11 @@ use Rattle.stage_world.specs.Idle.{TellsApart, apart_from_epochs}
 use Rattle.datacentre.specs.Seen.{DatacentreState}
 use Rattle.stage_turns.specs.declared.done.TurnDone.{TurnDone}
 use Rattle.world.specs.declared.network.Network.{Network}
-use Rattle.world.specs.Links.{packets_at}
-use Rattle.world.specs.Showing.{HasSent, Shows, TellsIdle, packets_of}
+use Rattle.world.specs.Links.{AreSpelled, packets_at}
+use Rattle.world.specs.Showing.{HasSent, Shows, TellsIdle}
 use Rattle.world.proofs.CallLemmas.{not_changed}
-use Rattle.world.proofs.LinkLemmas.{put_last-map}
-use Rattle.world.proofs.MovingLemmas.{packet_is, packets_are}
-
--- Messages and their bytes
-
--- the message as it goes over a link
-abbrev IsSpelled : ℕ → Message → Type 0
-IsSpelled dcs m = SpellsMessage dcs (message_bytes dcs m) m
-
-first_same : {A : Type 0} (a b : A) (more others : List A) → a ∷ more ≡ b ∷ others → a ≡ b
-first_same a b more others same = cc
-
-rest_same : {A : Type 0} (a b : A) (more others : List A) → a ∷ more ≡ b ∷ others → more ≡ others
-rest_same a b more others same = cc
-
--- lists of messages with the same bytes are one
-spelled_same : (dcs : ℕ) (xs ys : List Message) → dcs ≤ 8 → All (IsSpelled dcs) xs → All (IsSpelled dcs) ys → packets_of dcs xs ≡ packets_of dcs ys → xs ≡ ys
-spelled_same dcs [] [] few all_x all_y same = refl
-spelled_same dcs [] (y ∷ ys) few all_x all_y same = absurd (cc)
-spelled_same dcs (x ∷ xs) [] few all_x all_y same = absurd (cc)
-spelled_same dcs (x ∷ xs) (y ∷ ys) few all_x all_y same =
-    let bytes : message_bytes dcs x ≡ message_bytes dcs y = first_same (message_bytes dcs x) (message_bytes dcs y) (packets_of dcs xs) (packets_of dcs ys) same in
-    let one : x ≡ y = (message_law dcs (message_bytes dcs x) (message_bytes dcs y) [] x y few (All-head (IsSpelled dcs) x xs all_x) (All-head (IsSpelled dcs) y ys all_y) (append-nil (message_bytes dcs x) ∙ bytes)).0 in
-    let more : xs ≡ ys = spelled_same dcs xs ys few (All-tail (IsSpelled dcs) x xs all_x) (All-tail (IsSpelled dcs) y ys all_y)
-    (rest_same (message_bytes dcs x) (message_bytes dcs y) (packets_of dcs xs) (packets_of dcs ys) same) in
-    ap₂ (λ a rest. a ∷ rest) one more
-
-put_spelled : (dcs : ℕ) (ms : List Message) (m : Message) → All (IsSpelled dcs) ms → IsSpelled dcs m → All (IsSpelled dcs) (put_last ms m)
-put_spelled dcs ms m all one =
-    let last : All (IsSpelled dcs) (m ∷ []) = All-cons (IsSpelled dcs) m [] one (All-nil (IsSpelled dcs)) in
-    cond_both (ltb (length ms) 64) (ms ++ m ∷ []) (drop 1 ms ++ m ∷ []) (All (IsSpelled dcs))
-    (λ room. All-append (IsSpelled dcs) ms (m ∷ []) all last)
-    (λ full. All-append (IsSpelled dcs) (drop 1 ms) (m ∷ []) (All-drop (IsSpelled dcs) 1 ms all) last)
-
--- a put changes the packets exactly where it changes the messages
-put_apart : (dcs : ℕ) (ms : List Message) (m : Message) (ps : List (List ℕ)) (p : List ℕ) (changed : Bool) → dcs ≤ 8 → All (IsSpelled dcs) ms → IsSpelled dcs m
-    → ps ≡ packets_of dcs ms → p ≡ message_bytes dcs m → TellsApart changed ps (put_last ps p) → TellsApart changed ms (put_last ms m)
-put_apart dcs ms m ps p changed few all one are is tells =
-    let after : put_last ps p ≡ packets_of dcs (put_last ms m) = ap₂ put_last are is ∙ put_last-map (message_bytes dcs) ms m in
-    record {
-      same = λ no. spelled_same dcs ms (put_last ms m) few all (put_spelled dcs ms m all one) (sym are ∙ tells.same no ∙ after);
-      other = λ yes equal. tells.other yes (are ∙ ap (packets_of dcs) equal ∙ sym after);
-    }
+use Rattle.world.proofs.MovingLemmas.{packet_there, packets_are}
+use Rattle.world.proofs.NetworkLemmas.{rows_there}
 
 -- a message that is taken out is missed
 taken_apart : {A : Type 0} (ms : List A) (k : ℕ) (m : A) → message_at ms k ≡ Some m → ms ≢ without ms k
@@ -122,48 +79,59 @@ send_absent_told load z d k e changed gone tells =
     let none : ltb k (datacentre_at z d).senders ≡ false = le-ltb k (datacentre_at z d).senders gone in
     still_told load z (Send d k e) Absent changed tells (cond-false (ltb k (datacentre_at z d).senders) (send_turn z d k e) (still Absent z) none)
 
-module _ (load : Workload) (z : Stages) (old : Network) (d e : ℕ) (shown : Shows load.dcs z old) (in_d : d < load.dcs) (in_e : e < load.dcs) (few : load.dcs ≤ 8) (all : All (IsSpelled load.dcs) (link_at z d e)) where
-  pub sent_told : (new : List DatacentreState) (k : ℕ) (first : TurnDone) (packet : Option (List ℕ)) (done : TurnDone) → length (datacentre_at z d).table ≡ load.dcs
-      → HasSent d k e (datacentre_at z d) old.datacentres new (first, packet) → (packet ≡ None → done ≡ first)
-      → ForSome packet (λ bytes. TellsApart done.changed (packets_at old.links d e) (put_last (packets_at old.links d e) bytes)) → TellsIdle load z (Send d k e) done.changed
+module _ (load : Workload) (z : Stages) (old : Network) (d e : ℕ) (shown : Shows load.dcs z old) (in_d : d < load.dcs) (in_e : e < load.dcs) where
+  -- what is told of other messages in the link, by its packets
+  abbrev TellsPut : List ℕ → Bool → Type 0
+  TellsPut p changed =
+      (ms : List Message) (m : Message) → AreSpelled (length old.links) (packets_at old.links d e) ms → SpellsMessage (length old.links) p m → TellsApart changed ms (put_last ms m)
+
+  abbrev TellsCopy : ℕ → Bool → Type 0
+  TellsCopy k changed = (ms : List Message) → AreSpelled (length old.links) (packets_at old.links d e) ms → TellsApart changed ms (copied ms k)
+
+  spelled_here : AreSpelled (length old.links) (packets_at old.links d e) (link_at z d e)
+  spelled_here = subst (λ n. AreSpelled n (packets_at old.links d e) (link_at z d e)) (sym (rows_there load.dcs z old shown)) (packets_are load.dcs z old d e shown)
+
+  sent_told : (new : List DatacentreState) (k : ℕ) (first : TurnDone) (packet : Option (List ℕ)) (done : TurnDone) → length (datacentre_at z d).table ≡ load.dcs
+      → HasSent d k e (datacentre_at z d) old.datacentres new (first, packet) → (packet ≡ None → done ≡ first) → ForSome packet (λ p. TellsPut p done.changed) → TellsIdle load z (Send d k e) done.changed
   sent_told new k first None done rows sent same changed = send_absent_told load z d k e done.changed sent.packet (ap (λ (x : TurnDone). x.changed) (same refl) ∙ sent.changed)
   sent_told new k first (Some p) done rows sent same changed =
       let y : Datacentre = datacentre_at z d in
       let m : Message = message_of d y k e in
       let here : ltb k y.senders ≡ true = lt-ltb k y.senders sent.packet.0 in
-      let spelled : SpellsMessage load.dcs p m = subst (λ n. SpellsMessage n p m) rows sent.packet.1 in
-      let one : IsSpelled load.dcs m = subst (λ b. SpellsMessage load.dcs b m) spelled.spelled spelled in
+      let spelled : SpellsMessage (length old.links) p m = subst (λ n. SpellsMessage n p m) (rows ∙ sym (rows_there load.dcs z old shown)) (record { form = form_of y.upgraded m; inside = sent.packet.1 }) in
       link_told load.dcs z old d e shown in_d in_e load (Send d k e) (Sent (names_of m.records) (link_length (put_in_link z d e m) d e) (has_lost z d e)) (put_last (link_at z d e) m) done.changed
-      (put_apart load.dcs (link_at z d e) m (packets_at old.links d e) p done.changed few all one (packets_are load.dcs z old d e shown) spelled.spelled (changed p refl))
+      (changed p refl (link_at z d e) m spelled_here spelled)
       (cond-true (ltb k y.senders) (send_turn z d k e) (still Absent z) here)
+
+  pub sent_tells : {E : Type 0} (new : List DatacentreState) (k : ℕ) (first : TurnDone) (packet : Option (List ℕ)) (r : Result TurnDone E) (same : Type 0) → length (datacentre_at z d).table ≡ load.dcs
+      → HasSent d k e (datacentre_at z d) old.datacentres new (first, packet) → (packet ≡ None → same × IfOk r (λ done. done ≡ first))
+      → ForSome packet (λ p. (ms : List Message) (m : Message) → AreSpelled (length old.links) (packets_at old.links d e) ms → SpellsMessage (length old.links) p m → IfOk r (λ done. TellsApart done.changed ms (put_last ms m)))
+      → IfOk r (λ done. TellsIdle load z (Send d k e) done.changed)
+  sent_tells new k first packet (Ok done) same rows sent none changed = sent_told new k first packet done rows sent (λ is. (none is).1) changed
+  sent_tells new k first packet (Err x) same rows sent none changed = tt
 
   -- Copy
 
-  copied_at : (k : ℕ) (changed : Bool) (o : Option Message) → message_at (link_at z d e) k ≡ o → message_at (packets_at old.links d e) k ≡ option_map (message_bytes load.dcs) o
-      → TellsApart changed (packets_at old.links d e) (option_map_or (put_last (packets_at old.links d e)) (option_map (message_bytes load.dcs) o) (packets_at old.links d e)) → TellsIdle load z (Copy d e k) changed
-  copied_at k changed None there found tells =
-      still_told load z (Copy d e k) Absent changed (not_changed changed (packets_at old.links d e) (packets_at old.links d e) refl tells)
+  copied_at : (k : ℕ) (changed : Bool) (o : Option Message) → message_at (link_at z d e) k ≡ o → TellsApart changed (link_at z d e) (option_map_or (put_last (link_at z d e)) o (link_at z d e))
+      → TellsIdle load z (Copy d e k) changed
+  copied_at k changed None there tells =
+      still_told load z (Copy d e k) Absent changed (not_changed changed (link_at z d e) (link_at z d e) refl tells)
       (ap (λ o. option_map_or (λ m. still (Copied (link_length (put_in_link z d e m) d e) (has_lost z d e)) (put_in_link z d e m)) o (still Absent z)) there)
-  copied_at k changed (Some m) there found tells =
-      let one : IsSpelled load.dcs m = All-contains (IsSpelled load.dcs) (link_at z d e) m all (in_taken (link_at z d e) k m there) in
-      link_told load.dcs z old d e shown in_d in_e load (Copy d e k) (Copied (link_length (put_in_link z d e m) d e) (has_lost z d e)) (put_last (link_at z d e) m) changed
-      (put_apart load.dcs (link_at z d e) m (packets_at old.links d e) (message_bytes load.dcs m) changed few all one (packets_are load.dcs z old d e shown) refl tells)
+  copied_at k changed (Some m) there tells =
+      link_told load.dcs z old d e shown in_d in_e load (Copy d e k) (Copied (link_length (put_in_link z d e m) d e) (has_lost z d e)) (put_last (link_at z d e) m) changed tells
       (ap (λ o. option_map_or (λ x. still (Copied (link_length (put_in_link z d e x) d e) (has_lost z d e)) (put_in_link z d e x)) o (still Absent z)) there)
 
-  pub copied_told : (k : ℕ) (changed : Bool) → TellsApart changed (packets_at old.links d e) (copied (packets_at old.links d e) k) → TellsIdle load z (Copy d e k) changed
-  copied_told k changed tells =
-      let found : message_at (packets_at old.links d e) k ≡ option_map (message_bytes load.dcs) (message_at (link_at z d e) k) = packet_is load.dcs z old d e k shown in
-      copied_at k changed (message_at (link_at z d e) k) refl found
-      (subst (λ o. TellsApart changed (packets_at old.links d e) (option_map_or (put_last (packets_at old.links d e)) o (packets_at old.links d e))) found tells)
+  copied_told : (k : ℕ) (changed : Bool) → TellsCopy k changed → TellsIdle load z (Copy d e k) changed
+  copied_told k changed tells = copied_at k changed (message_at (link_at z d e) k) refl (tells (link_at z d e) spelled_here)
 
-module _ (load : Workload) (z : Stages) (old : Network) (d e : ℕ) (shown : Shows load.dcs z old) (in_d : d < load.dcs) (in_e : e < load.dcs) where
+  pub copied_tells : {E : Type 0} (k : ℕ) (r : Result TurnDone E) → ((ms : List Message) → AreSpelled (length old.links) (packets_at old.links d e) ms → IfOk r (λ done. TellsApart done.changed ms (copied ms k)))
+      → IfOk r (λ done. TellsIdle load z (Copy d e k) done.changed)
+  copied_tells k (Ok done) tells = copied_told k done.changed tells
+  copied_tells k (Err x) tells = tt
+
   -- a packet was found exactly where there is a message
   found_is : (k : ℕ) (changed : Bool) (o : Option Message) → message_at (link_at z d e) k ≡ o → changed ≡ is_some (message_at (packets_at old.links d e) k) → changed ≡ is_some o
-  found_is k changed o there tells = tells ∙ ap is_some (packet_is load.dcs z old d e k shown ∙ ap (option_map (message_bytes load.dcs)) there) ∙ some_is o
-    where
-      some_is : (x : Option Message) → is_some (option_map (message_bytes load.dcs) x) ≡ is_some x
-      some_is None = refl
-      some_is (Some m) = refl
+  found_is k changed o there tells = tells ∙ packet_there load.dcs z old d e k shown ∙ ap is_some there
 
   -- Lose
 

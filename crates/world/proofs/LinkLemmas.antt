@@ -1,64 +1,121 @@
--- Links of packets that spell messages.
-use Rattle.std.proofs.Common.{◌≡◌, ℕ, zero, suc, ltb, List, [], ◌∷◌, ◌++◌, length, map, take, drop, get_or, set, refl, ap, ap₂, sym, ◌∙◌, Option, Some, None, is_some, slice_get, option_map}
+-- Links of packets, and the messages that they spell.
+--
+-- What is done to two lists alike keeps them related place by place: a message is taken out, one goes last, one is copied. It is
+-- said of any relation, by induction on both lists; packets and messages come at the end.
+use Rattle.std.proofs.Common.{◌≡◌, ℕ, zero, suc, ltb, List, [], ◌∷◌, ◌++◌, length, take, drop, get_or, set, replicate, refl, ap, sym, ◌∙◌, subst, Option, Some, None, is_some, slice_get}
+use Rattle.std.specs.List.{AllZip}
 use Rattle.std.specs.Option.{option_map_or}
-use Rattle.std.proofs.Math.ListN.{get_or-map}
-use Rattle.std.proofs.lemmas.List.{map-set, map-append, map_push, length-map, take-map, drop-map, set-get_or}
-use Rattle.std.proofs.lemmas.Option.{slice_get-map}
+use Rattle.std.proofs.lemmas.List.{set-get_or}
 use Rattle.std.proofs.lemmas.Bool.{cond_both, cond-true, cond-false}
+use Rattle.std.proofs.lemmas.Slice.Zip.{all_zipped_more, AllZip-long}
 use Rattle.lossy_links.specs.Links.{copied, lost_by_put, message_at, put_last, without}
 use Rattle.record_codec.specs.declared.message.Message.{Message}
-use Rattle.world.specs.Links.{packets_at, with_packets}
-use Rattle.world.specs.Showing.{packets_of, rows_of}
+use Rattle.world.specs.Links.{AreLinked, AreSpelled, packets_at, with_packets}
+
+-- there are two, which are related, or neither
+abbrev pub AreBoth : {A B : Type 0} → (A → B → Type 0) → Option A → Option B → Type 0
+AreBoth R None None = Unit {0}
+AreBoth R None (Some b) = ⊥
+AreBoth R (Some a) None = ⊥
+AreBoth R (Some a) (Some b) = R a b
+
+pub both_or_neither : {A B : Type 0} (R : A → B → Type 0) (a : Option A) (b : Option B) → AreBoth R a b → is_some a ≡ is_some b
+both_or_neither R None None h = refl
+both_or_neither R None (Some b) h = absurd h
+both_or_neither R (Some a) None h = absurd h
+both_or_neither R (Some a) (Some b) h = refl
+
+module _ {A B : Type 0} (R : A → B → Type 0) where
+  zip-append : (xs us : List A) (ys vs : List B) → AllZip R xs ys → AllZip R us vs → AllZip R (xs ++ us) (ys ++ vs)
+  zip-append [] us [] vs h k = k
+  zip-append [] us (y ∷ ys) vs h k = absurd h
+  zip-append (x ∷ xs) us [] vs h k = absurd h
+  zip-append (x ∷ xs) us (y ∷ ys) vs h k = (h.0, zip-append xs us ys vs h.1 k)
+
+  zip-take : (n : ℕ) (xs : List A) (ys : List B) → AllZip R xs ys → AllZip R (take n xs) (take n ys)
+  zip-take zero xs ys h = tt
+  zip-take (suc n) [] [] h = tt
+  zip-take (suc n) [] (y ∷ ys) h = absurd h
+  zip-take (suc n) (x ∷ xs) [] h = absurd h
+  zip-take (suc n) (x ∷ xs) (y ∷ ys) h = (h.0, zip-take n xs ys h.1)
+
+  zip-drop : (n : ℕ) (xs : List A) (ys : List B) → AllZip R xs ys → AllZip R (drop n xs) (drop n ys)
+  zip-drop zero xs ys h = h
+  zip-drop (suc n) [] [] h = tt
+  zip-drop (suc n) [] (y ∷ ys) h = absurd h
+  zip-drop (suc n) (x ∷ xs) [] h = absurd h
+  zip-drop (suc n) (x ∷ xs) (y ∷ ys) h = zip-drop n xs ys h.1
+
+  zip-set : (xs : List A) (ys : List B) (i : ℕ) (x : A) (y : B) → AllZip R xs ys → R x y → AllZip R (set xs i x) (set ys i y)
+  zip-set [] [] i x y h one = tt
+  zip-set [] (b ∷ ys) i x y h one = absurd h
+  zip-set (a ∷ xs) [] i x y h one = absurd h
+  zip-set (a ∷ xs) (b ∷ ys) zero x y h one = (one, h.1)
+  zip-set (a ∷ xs) (b ∷ ys) (suc i) x y h one = (h.0, zip-set xs ys i x y h.1 one)
+
+  zip-get_or : (xs : List A) (ys : List B) (i : ℕ) (x : A) (y : B) → AllZip R xs ys → R x y → R (get_or xs i x) (get_or ys i y)
+  zip-get_or [] [] i x y h one = one
+  zip-get_or [] (b ∷ ys) i x y h one = absurd h
+  zip-get_or (a ∷ xs) [] i x y h one = absurd h
+  zip-get_or (a ∷ xs) (b ∷ ys) zero x y h one = h.0
+  zip-get_or (a ∷ xs) (b ∷ ys) (suc i) x y h one = zip-get_or xs ys i x y h.1 one
+
+  pub zip-replicate : (n : ℕ) (x : A) (y : B) → R x y → AllZip R (replicate n x) (replicate n y)
+  zip-replicate zero x y one = tt
+  zip-replicate (suc n) x y one = (one, zip-replicate n x y one)
+
+  zip-slice_get : (k : ℕ) (xs : List A) (ys : List B) → AllZip R xs ys → AreBoth R (slice_get xs k) (slice_get ys k)
+  zip-slice_get k [] [] h = tt
+  zip-slice_get k [] (y ∷ ys) h = absurd h
+  zip-slice_get k (x ∷ xs) [] h = absurd h
+  zip-slice_get zero (x ∷ xs) (y ∷ ys) h = h.0
+  zip-slice_get (suc k) (x ∷ xs) (y ∷ ys) h = zip-slice_get k xs ys h.1
+
+  -- what is done to links
+
+  pub zip-message_at : (k : ℕ) (xs : List A) (ys : List B) → AllZip R xs ys → AreBoth R (message_at xs k) (message_at ys k)
+  zip-message_at zero xs ys h = tt
+  zip-message_at (suc k) xs ys h = zip-slice_get k xs ys h
+
+  pub zip-without : (k : ℕ) (xs : List A) (ys : List B) → AllZip R xs ys → AllZip R (without xs k) (without ys k)
+  zip-without zero xs ys h = h
+  zip-without (suc k) xs ys h = zip-append (take k xs) (drop (suc k) xs) (take k ys) (drop (suc k) ys) (zip-take k xs ys h) (zip-drop (suc k) xs ys h)
+
+  pub zip-put_last : (xs : List A) (ys : List B) (x : A) (y : B) → AllZip R xs ys → R x y → AllZip R (put_last xs x) (put_last ys y)
+  zip-put_last xs ys x y h one =
+      let many : ltb (length ys) 64 ≡ ltb (length xs) 64 = ap (λ n. ltb n 64) (AllZip-long R xs ys h) in
+      cond_both (ltb (length xs) 64) (xs ++ x ∷ []) (drop 1 xs ++ x ∷ []) (λ zs. AllZip R zs (put_last ys y))
+      (λ room. subst (AllZip R (xs ++ x ∷ [])) (sym (cond-true (ltb (length ys) 64) (ys ++ y ∷ []) (drop 1 ys ++ y ∷ []) (many ∙ room))) (all_zipped_more R xs ys x y h one))
+      (λ full. subst (AllZip R (drop 1 xs ++ x ∷ [])) (sym (cond-false (ltb (length ys) 64) (ys ++ y ∷ []) (drop 1 ys ++ y ∷ []) (many ∙ full))) (all_zipped_more R (drop 1 xs) (drop 1 ys) x y (zip-drop 1 xs ys h) one))
+
+  pub zip-lost : (xs : List A) (ys : List B) → AllZip R xs ys → is_some (lost_by_put xs) ≡ is_some (lost_by_put ys)
+  zip-lost xs ys h =
+      let many : ltb (length ys) 64 ≡ ltb (length xs) 64 = ap (λ n. ltb n 64) (AllZip-long R xs ys h) in
+      cond_both (ltb (length xs) 64) None (slice_get xs 0) (λ o. is_some o ≡ is_some (lost_by_put ys))
+      (λ room. ap (λ o. is_some o) (sym (cond-true (ltb (length ys) 64) None (slice_get ys 0) (many ∙ room))))
+      (λ full. both_or_neither R (slice_get xs 0) (slice_get ys 0) (zip-slice_get 0 xs ys h) ∙ ap (λ o. is_some o) (sym (cond-false (ltb (length ys) 64) None (slice_get ys 0) (many ∙ full))))
 
 -- the packets of a link among all links
-pub packets_at_is : (dcs : ℕ) (links : List (List (List Message))) (d e : ℕ) → packets_at (rows_of dcs links) d e ≡ packets_of dcs (get_or (get_or links d []) e [])
-packets_at_is dcs links d e =
-    ap (λ row. get_or row e []) (get_or-map (λ (row : List (List Message)). map (packets_of dcs) row) links d [])
-    ∙ get_or-map (packets_of dcs) (get_or links d []) e []
+pub packets_spelled : (dcs : ℕ) (links : List (List (List (List ℕ)))) (zs : List (List (List Message))) (d e : ℕ) → AreLinked dcs links zs → AreSpelled dcs (packets_at links d e) (get_or (get_or zs d []) e [])
+packets_spelled dcs links zs d e h = zip-get_or (AreSpelled dcs) (get_or links d []) (get_or zs d []) e [] [] (zip-get_or (AllZip (AreSpelled dcs)) links zs d [] [] h tt) tt
+
+-- as many links as there are rows, and in each row
+pub rows_long : (dcs : ℕ) (links : List (List (List (List ℕ)))) (zs : List (List (List Message))) → AreLinked dcs links zs → length zs ≡ length links
+rows_long dcs links zs h = AllZip-long (AllZip (AreSpelled dcs)) links zs h
+
+pub row_long : (dcs : ℕ) (links : List (List (List (List ℕ)))) (zs : List (List (List Message))) (d : ℕ) → AreLinked dcs links zs → length (get_or zs d []) ≡ length (get_or links d [])
+row_long dcs links zs d h = AllZip-long (AreSpelled dcs) (get_or links d []) (get_or zs d []) (zip-get_or (AllZip (AreSpelled dcs)) links zs d [] [] h tt)
 
 -- a link is changed
-pub with_packets_is : (dcs : ℕ) (links : List (List (List Message))) (d e : ℕ) (ms : List Message)
-    → with_packets (rows_of dcs links) d e (packets_of dcs ms) ≡ rows_of dcs (set links d (set (get_or links d []) e ms))
-with_packets_is dcs links d e ms =
-    let row : List (List Message) = get_or links d [] in
-    let P : List (List Message) → List (List (List ℕ)) = λ (r : List (List Message)). map (packets_of dcs) r in
-    ap (λ r. set (rows_of dcs links) d (set r e (packets_of dcs ms))) (get_or-map P links d [])
-    ∙ ap (set (rows_of dcs links) d) (sym (map-set (packets_of dcs) row e ms))
-    ∙ sym (map-set P links d (set row e ms))
+pub with_spelled : (dcs : ℕ) (links : List (List (List (List ℕ)))) (zs : List (List (List Message))) (d e : ℕ) (ps : List (List ℕ)) (ms : List Message) → AreLinked dcs links zs → AreSpelled dcs ps ms
+    → AreLinked dcs (with_packets links d e ps) (set zs d (set (get_or zs d []) e ms))
+with_spelled dcs links zs d e ps ms h new =
+    zip-set (AllZip (AreSpelled dcs)) links zs d (set (get_or links d []) e ps) (set (get_or zs d []) e ms) h
+    (zip-set (AreSpelled dcs) (get_or links d []) (get_or zs d []) e ps ms (zip-get_or (AllZip (AreSpelled dcs)) links zs d [] [] h tt) new)
 
-module _ {A B : Type 0} (f : A → B) where
-  pub message_at-map : (ms : List A) (k : ℕ) → message_at (map f ms) k ≡ option_map f (message_at ms k)
-  message_at-map ms zero = refl
-  message_at-map ms (suc k) = slice_get-map f ms k
-
-  pub without-map : (ms : List A) (k : ℕ) → without (map f ms) k ≡ map f (without ms k)
-  without-map ms zero = refl
-  without-map ms (suc k) = ap₂ (λ xs ys. xs ++ ys) (take-map f k ms) (drop-map f (suc k) ms) ∙ sym (map-append f (take k ms) (drop (suc k) ms))
-
-  pub put_last-map : (ms : List A) (m : A) → put_last (map f ms) (f m) ≡ map f (put_last ms m)
-  put_last-map ms m = cond_both (ltb (length ms) 64) (ms ++ m ∷ []) (drop 1 ms ++ m ∷ []) (λ xs. put_last (map f ms) (f m) ≡ map f xs)
-      (λ room. cond-true (ltb (length (map f ms)) 64) (map f ms ++ f m ∷ []) (drop 1 (map f ms) ++ f m ∷ []) (ap (λ n. ltb n 64) (length-map ms f) ∙ room) ∙ sym (map_push f ms m))
-      (λ full. cond-false (ltb (length (map f ms)) 64) (map f ms ++ f m ∷ []) (drop 1 (map f ms) ++ f m ∷ []) (ap (λ n. ltb n 64) (length-map ms f) ∙ full)
-      ∙ ap (λ xs. xs ++ f m ∷ []) (drop-map f 1 ms) ∙ sym (map_push f (drop 1 ms) m))
-
-  pub lost-map : (ms : List A) → lost_by_put (map f ms) ≡ option_map f (lost_by_put ms)
-  lost-map ms = cond_both (ltb (length ms) 64) None (slice_get ms 0) (λ o. lost_by_put (map f ms) ≡ option_map f o)
-      (λ room. cond-true (ltb (length (map f ms)) 64) None (slice_get (map f ms) 0) (ap (λ n. ltb n 64) (length-map ms f) ∙ room))
-      (λ full. cond-false (ltb (length (map f ms)) 64) None (slice_get (map f ms) 0) (ap (λ n. ltb n 64) (length-map ms f) ∙ full) ∙ slice_get-map f ms 0)
-
-  some-map : (o : Option A) → is_some (option_map f o) ≡ is_some o
-  some-map None = refl
-  some-map (Some a) = refl
-
-  pub has_lost-map : (ms : List A) → is_some (lost_by_put (map f ms)) ≡ is_some (lost_by_put ms)
-  has_lost-map ms = ap (λ o. is_some o) (lost-map ms) ∙ some-map (lost_by_put ms)
-
-  copied-at : (ms : List A) (o : Option A) → option_map_or (put_last (map f ms)) (option_map f o) (map f ms) ≡ map f (option_map_or (put_last ms) o ms)
-  copied-at ms None = refl
-  copied-at ms (Some m) = put_last-map ms m
-
-  pub copied-map : (ms : List A) (k : ℕ) → copied (map f ms) k ≡ map f (copied ms k)
-  copied-map ms k = ap (λ o. option_map_or (put_last (map f ms)) o (map f ms)) (message_at-map ms k) ∙ copied-at ms (message_at ms k)
+-- links without a message
+pub none_linked : (dcs n : ℕ) → AreLinked dcs (replicate n (replicate n [])) (replicate n (replicate n []))
+none_linked dcs n = zip-replicate (AllZip (AreSpelled dcs)) n (replicate n []) (replicate n []) (zip-replicate (AreSpelled dcs) n [] [] tt)
 
 -- where there is no such packet, nothing is taken out
 remove_none : {A : Type 0} (ms : List A) (k : ℕ) → slice_get ms k ≡ None → take k ms ++ drop (suc k) ms ≡ ms

@@ -19,7 +19,7 @@ use Rattle.settling_laws.proofs.Passes.{EndsAfter, IsBlind, answering_is_blind, 
 use Rattle.datacentre.specs.Seen.{DatacentreState}
 use Rattle.world.specs.Settled.{AreAnswered, AreCalm, Plays}
 use Rattle.world.specs.Showing.{states_from}
-use Rattle.world.specs.Taking.{HasTaken, IsTaken, StagesState, Taken, settled, stages_after}
+use Rattle.world.specs.Taking.{HasTaken, HaveTakenTurns, StagesState, TakenTurn, settled, stages_after}
 use Rattle.world.proofs.KnownLemmas.{known_of}
 use Rattle.world.proofs.SettledLemmas.{IsSoFar, after_so_far, stages_played}
 use Rattle.world.proofs.TakingLemmas.{run_of}
@@ -40,7 +40,7 @@ seen_all n (z ∷ zs) = ap (λ ys. z ∷ ys) (seen_all (n + 1) zs)
 abbrev pub shown_in : StagesState → Stages
 shown_in s = unlinked s.workload (seen_in s)
 
-module _ (script : Script) (ts : List Taken) (s : StagesState) (h : HasTaken script ts s) where
+module _ (script : Script) (ts : List TakenTurn) (s : StagesState) (h : HasTaken script ts s) where
   pub stands_after : IsStanding script.workload (stages_after script ts)
   stands_after =
       let run = run_of script ts s h in
@@ -59,7 +59,7 @@ module _ (goes_on : Stages → Bool) (pass : Workload → Stages → List Step) 
   abbrev pub passes_from : ℕ → StagesState → ℕ
   passes_from fuel s = passes_left goes_on pass s.workload fuel (shown_in s)
 
-  passes_are : (fuel : ℕ) (script : Script) (ts : List Taken) (s : StagesState) → IsBlind goes_on pass script.workload → HasTaken script ts s → passes_from fuel s ≡ passes_left goes_on pass script.workload fuel (stages_after script ts)
+  passes_are : (fuel : ℕ) (script : Script) (ts : List TakenTurn) (s : StagesState) → IsBlind goes_on pass script.workload → HasTaken script ts s → passes_from fuel s ≡ passes_left goes_on pass script.workload fuel (stages_after script ts)
   passes_are fuel script ts s blind h =
       let load : Workload = script.workload in
       let z : Stages = stages_after script ts in
@@ -69,13 +69,13 @@ module _ (goes_on : Stages → Bool) (pass : Workload → Stages → List Step) 
 
   -- The loop ends from state a on, within the fuel.
   pub record Ends (fuel : ℕ) (a : StagesState) : Type 0 where
-    pub taken : IsTaken a
+    pub taken : HaveTakenTurns a
     pub blind : IsBlind goes_on pass taken.script.workload
     pub passes : ℕ
     pub after : EndsAfter goes_on pass taken.script.workload (stages_after taken.script taken.turns) passes
     pub few : passes ≤ fuel
 
-  pub pass_nearer : (fuel : ℕ) (a b c : StagesState) → Ends fuel a → Plays (IsSoFar goes_on pass) a b → ((script : Script) (ts : List Taken) → HasTaken script ts b → goes_on (stages_after script ts) ≡ true)
+  pub pass_nearer : (fuel : ℕ) (a b c : StagesState) → Ends fuel a → Plays (IsSoFar goes_on pass) a b → ((script : Script) (ts : List TakenTurn) → HasTaken script ts b → goes_on (stages_after script ts) ≡ true)
       → Plays (λ load z xs. xs ≡ pass load z) b c → passes_from fuel c < passes_from fuel b
   pass_nearer fuel a b c e so going next =
       let script : Script = e.taken.script in
@@ -83,10 +83,10 @@ module _ (goes_on : Stages → Bool) (pass : Workload → Stages → List Step) 
       let z : Stages = stages_after script e.taken.turns in
       let one = so script e.taken.turns e.taken.taken in
       let m : ℕ = one.are.passes in
-      let to_b : List Taken = e.taken.turns ++ settled one.steps in
+      let to_b : List TakenTurn = e.taken.turns ++ settled one.steps in
       let at_b : stages_after script to_b ≡ after_passes load pass z m = stages_played script e.taken.turns one.steps ∙ after_so_far goes_on pass load z one.steps one.are in
       let two = next script to_b one.taken in
-      let to_c : List Taken = to_b ++ settled two.steps in
+      let to_c : List TakenTurn = to_b ++ settled two.steps in
       let at_c : stages_after script to_c ≡ after_passes load pass z (suc m) =
       stages_played script to_b two.steps ∙ ap (after_steps load (stages_after script to_b)) two.are ∙ ap (λ y. after_steps load y (pass load y)) at_b in
       omega (
@@ -102,7 +102,7 @@ module _ (goes_on : Stages → Bool) (pass : Workload → Stages → List Step) 
 abbrev pub work_left : StagesState → ℕ
 work_left s = left_in (shown_in s) + 1
 
-pub answers_end : (s : StagesState) → ((w : World) (z : Stages) → IsLawful w → StandsFor w z → EndsAnswering w.workload z) → IsTaken s → Ends is_answering answering_rounds (work_left s) s
+pub answers_end : (s : StagesState) → ((w : World) (z : Stages) → IsLawful w → StandsFor w z → EndsAnswering w.workload z) → HaveTakenTurns s → Ends is_answering answering_rounds (work_left s) s
 answers_end s law h =
     let load : Workload = h.script.workload in
     let z : Stages = stages_after h.script h.turns in
@@ -117,7 +117,7 @@ answers_end s law h =
     }
 
 -- Telling ends, within two passes for each record that a log may get.
-pub tells_end : (s : StagesState) → ((w : World) (z : Stages) → IsLawful w → StandsFor w z → AreQuiet w.workload z → is_answering z ≡ false → EndsTelling w.workload z) → IsTaken s → AreCalm s.workload s.network.datacentres → AreAnswered s.network.datacentres
+pub tells_end : (s : StagesState) → ((w : World) (z : Stages) → IsLawful w → StandsFor w z → AreQuiet w.workload z → is_answering z ≡ false → EndsTelling w.workload z) → HaveTakenTurns s → AreCalm s.workload s.network.datacentres → AreAnswered s.network.datacentres
     → Ends is_unfinished telling_rounds (most_passes s.workload) s
 tells_end s law h calm answered =
     let load : Workload = h.script.workload in
@@ -141,12 +141,12 @@ same_shown z y xs of_z of_y =
     sym (seen_all 0 z.datacentres) ∙ ap (map (λ (x : DatacentreState). or_nowhere x.stages)) (sym of_z ∙ of_y) ∙ seen_all 0 y.datacentres
 
 -- what is quiet is so for all that may be known of the datacentres
-calm_by : (script : Script) (ts : List Taken) (s : StagesState) → HasTaken script ts s → AreQuiet script.workload (stages_after script ts) → AreCalm s.workload s.network.datacentres
+calm_by : (script : Script) (ts : List TakenTurn) (s : StagesState) → HasTaken script ts s → AreQuiet script.workload (stages_after script ts) → AreCalm s.workload s.network.datacentres
 calm_by script ts s h quiet z known d within =
     ap (λ zs. (get_or zs d nowhere_at).announcement) (same_shown z (stages_after script ts) s.network.datacentres known.shown h.shown.datacentres)
     ∙ quiet d (omega (arith, within, ap (λ (l : Workload). l.dcs) h.workload))
 
-pub marks_calm : (a b : StagesState) → ((w : World) (z : Stages) → IsLawful w → StandsFor w z → AreQuiet w.workload (after_steps w.workload z (all_marks z))) → IsTaken a → Plays (λ load z xs. xs ≡ all_marks z) a b → AreCalm b.workload b.network.datacentres
+pub marks_calm : (a b : StagesState) → ((w : World) (z : Stages) → IsLawful w → StandsFor w z → AreQuiet w.workload (after_steps w.workload z (all_marks z))) → HaveTakenTurns a → Plays (λ load z xs. xs ≡ all_marks z) a b → AreCalm b.workload b.network.datacentres
 marks_calm a b law h plays =
     let load : Workload = h.script.workload in
     let z : Stages = stages_after h.script h.turns in
@@ -156,7 +156,7 @@ marks_calm a b law h plays =
     calm_by h.script (h.turns ++ settled one.steps) b one.taken
     (subst (AreQuiet load) (sym (stages_played h.script h.turns one.steps ∙ ap (after_steps load z) one.are)) quiet)
 
-pub answering_calm : (a b : StagesState) → IsTaken a → AreCalm a.workload a.network.datacentres → Plays (IsSoFar is_answering answering_rounds) a b → AreCalm b.workload b.network.datacentres
+pub answering_calm : (a b : StagesState) → HaveTakenTurns a → AreCalm a.workload a.network.datacentres → Plays (IsSoFar is_answering answering_rounds) a b → AreCalm b.workload b.network.datacentres
 answering_calm a b h calm plays =
     let load : Workload = h.script.workload in
     let z : Stages = stages_after h.script h.turns in

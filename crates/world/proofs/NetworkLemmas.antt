@@ -1,6 +1,6 @@
 -- The datacentres of the code, and those of the stage world.
-use Rattle.std.proofs.Common.{◌≡◌, ℕ, zero, suc, ◌+◌, ◌<◌, List, [], ◌∷◌, ◌++◌, length, get_or, set, refl, ap, sym, ◌∙◌, arith, Some}
-use Rattle.std.proofs.lemmas.List.{length-set, length-map}
+use Rattle.std.proofs.Common.{◌≡◌, ℕ, zero, suc, ◌+◌, ◌<◌, List, [], ◌∷◌, ◌++◌, length, get_or, set, refl, ap, sym, ◌∙◌, subst, arith, Some}
+use Rattle.std.proofs.lemmas.List.{length-set}
 use Rattle.std.proofs.lemmas.List.Elements.{All-get_or, All-set}
 use Rattle.record_codec.specs.declared.message.Message.{Message}
 use Rattle.stage_world.specs.Stages.{Datacentre, Stages}
@@ -8,9 +8,9 @@ use Rattle.stage_world.specs.LinkTurns.{with_link}
 use Rattle.stage_world.specs.Whole.{datacentre_at, nowhere_at, with_turn}
 use Rattle.datacentre.specs.Seen.{DatacentreState}
 use Rattle.world.specs.declared.network.Network.{Network}
-use Rattle.world.specs.Links.{with_packets}
-use Rattle.world.specs.Showing.{Shows, packets_of, states_from}
-use Rattle.world.proofs.LinkLemmas.{with_packets_is}
+use Rattle.world.specs.Links.{AreLinked, AreSpelled, with_packets}
+use Rattle.world.specs.Showing.{Shows, states_from}
+use Rattle.world.proofs.LinkLemmas.{rows_long, with_spelled}
 
 abbrev state : ℕ → Datacentre → DatacentreState
 state d z = record { dc = d; stages = Some z }
@@ -48,7 +48,7 @@ module _ (dcs : ℕ) (z : Stages) (old : Network) (h : Shows dcs z old) where
   datacentres_there = ap length h.datacentres ∙ length-states 0 z.datacentres ∙ h.count
 
   pub rows_there : length old.links ≡ dcs
-  rows_there = ap length h.links ∙ length-map z.links _ ∙ h.rows
+  rows_there = sym (rows_long dcs old.links z.links h.links) ∙ h.rows
 
   -- the state of one of them
   pub state_there : (d : ℕ) (s : DatacentreState) → d < dcs → get_or old.datacentres d s ≡ state d (datacentre_at z d)
@@ -58,20 +58,20 @@ module _ (dcs : ℕ) (z : Stages) (old : Network) (h : Shows dcs z old) where
   pub shows_turn : (d : ℕ) (after : Datacentre) (new : Network) → new.datacentres ≡ set old.datacentres d (state d after) → new.links ≡ old.links → Shows dcs (with_turn z d after) new
   shows_turn d after new changed same = record {
     datacentres = changed ∙ ap (λ xs. set xs d (state d after)) h.datacentres ∙ ap (λ k. set (states_from 0 z.datacentres) d (state k after)) (plus-zero d) ∙ states_set 0 z.datacentres d after;
-    links = same ∙ h.links;
+    links = subst (λ ls. AreLinked dcs ls z.links) (sym same) h.links;
     count = length-set z.datacentres d after ∙ h.count;
     rows = h.rows;
     columns = h.columns;
   }
 
   -- the link from d to e has other messages
-  pub shows_link : (d e : ℕ) (ms : List Message) (new : Network) → d < dcs → new.datacentres ≡ old.datacentres → new.links ≡ with_packets old.links d e (packets_of dcs ms) → Shows dcs (with_link z d e ms) new
-  shows_link d e ms new within same changed =
+  pub shows_link : (d e : ℕ) (ps : List (List ℕ)) (ms : List Message) (new : Network) → d < dcs → new.datacentres ≡ old.datacentres → new.links ≡ with_packets old.links d e ps → AreSpelled dcs ps ms → Shows dcs (with_link z d e ms) new
+  shows_link d e ps ms new within same changed spelled =
       let row : List (List Message) = get_or z.links d [] in
       let wide : length row ≡ dcs = All-get_or (λ (r : List (List Message)). length r ≡ dcs) z.links d [] (omega (arith, within, h.rows)) h.columns in
       record {
         datacentres = same ∙ h.datacentres;
-        links = changed ∙ ap (λ ls. with_packets ls d e (packets_of dcs ms)) h.links ∙ with_packets_is dcs z.links d e ms;
+        links = subst (λ ls. AreLinked dcs ls (set z.links d (set row e ms))) (sym changed) (with_spelled dcs old.links z.links d e ps ms h.links spelled);
         count = h.count;
         rows = length-set z.links d (set row e ms) ∙ h.rows;
         columns = All-set (λ (r : List (List Message)). length r ≡ dcs) z.links d (set row e ms) (length-set row e ms ∙ wide) h.columns;

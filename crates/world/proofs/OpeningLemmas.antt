@@ -1,5 +1,5 @@
 -- What the code opens is what the script opens.
-use Rattle.std.proofs.Common.{◌≡◌, ℕ, zero, suc, ◌+◌, List, [], ◌∷◌, ◌++◌, length, map, replicate, refl, ap, sym, ◌∙◌, arith, Some, add-one}
+use Rattle.std.proofs.Common.{◌≡◌, ℕ, zero, suc, ◌+◌, List, [], ◌∷◌, ◌++◌, length, replicate, refl, ap, sym, ◌∙◌, subst, arith, Some, add-one}
 use Rattle.std.specs.List.{All}
 use Rattle.std.proofs.lemmas.List.{length-replicate}
 use Rattle.std.proofs.lemmas.List.Elements.{All-nil, All-cons}
@@ -10,7 +10,9 @@ use Rattle.stage_world.specs.Opening.{numbered, opening}
 use Rattle.stage_world.proofs.OpeningLemmas.{length-numbered}
 use Rattle.datacentre.specs.Seen.{DatacentreState}
 use Rattle.world.specs.declared.network.Network.{Network}
-use Rattle.world.specs.Showing.{Shows, opened_at, packets_of, states_from}
+use Rattle.world.specs.Links.{AreLinked}
+use Rattle.world.specs.Showing.{Shows, opened_at, states_from}
+use Rattle.world.proofs.LinkLemmas.{none_linked}
 use Rattle.world.proofs.NetworkLemmas.{states_push}
 
 zero-plus : (k : ℕ) → 0 + k ≡ k
@@ -25,10 +27,6 @@ opened_next script n xs before =
     ∙ sym (states_push 0 (numbered (opened_at script) n) z)
     ∙ sym (ap (λ k. states_from 0 (numbered (opened_at script) k)) (add-one n))
 
-map-replicate : {A B : Type 0} (f : A → B) (n : ℕ) (a : A) → replicate n (f a) ≡ map f (replicate n a)
-map-replicate f zero a = refl
-map-replicate f (suc n) a = ap (λ xs. f a ∷ xs) (map-replicate f n a)
-
 All-replicate : {A : Type 0} (P : A → Type 0) (n : ℕ) (a : A) → P a → All P (replicate n a)
 All-replicate P zero a here = All-nil P
 All-replicate P (suc n) a here = All-cons P a (replicate n a) here (All-replicate P n a here)
@@ -41,9 +39,7 @@ pub opened_shows : (script : Script) (network : Network) → network.datacentres
 opened_shows script network datacentres links =
     let n : ℕ = script.workload.dcs in record {
       datacentres = datacentres;
-      links =
-          links ∙ ap (λ row. replicate n row) (map-replicate (packets_of n) n no_messages)
-          ∙ map-replicate (λ (row : List (List Message)). map (packets_of n) row) n (replicate n no_messages);
+      links = subst (λ ls. AreLinked n ls (replicate n (replicate n no_messages))) (sym links) (none_linked n n);
       count = length-numbered (opened_at script) n;
       rows = length-replicate n (replicate n no_messages);
       columns = All-replicate (λ (row : List (List Message)). length row ≡ n) n (replicate n no_messages) (length-replicate n no_messages);

@@ -25,7 +25,7 @@ use Rattle.settling_laws.specs.Ending.{IsFinishedBy}
 use Rattle.world.specs.declared.stages.Played.{Played}
 use Rattle.world.specs.Replays.{IsReplayed}
 use Rattle.world.specs.Settled.{HasPlayed, Plays}
-use Rattle.world.specs.Taking.{HasTaken, IsPlayed, IsTaken, StagesState, Taken, events_after, settled as settled_steps, stages_after, steps_of, taken_of}
+use Rattle.world.specs.Taking.{HasTaken, IsPlayed, HaveTakenTurns, StagesState, TakenTurn, events_after, settled as settled_steps, stages_after, steps_of, taken_of}
 use Rattle.world.proofs.RoundLemmas.{take_all}
 use Rattle.world.proofs.SettledLemmas.{steps_played}
 use Rattle.world.proofs.TakingLemmas.{run_of}
@@ -40,7 +40,7 @@ events_append load z (x ∷ xs) ys =
 abbrev Finishes : Type 0
 Finishes = (w : World) (z : Stages) (steps : List Step) → IsLawful w → StandsFor w z → IsSettling w.workload z steps → IsFinishedBy w z steps
 
-pub finished_after : (script : Script) (ts : List Taken) (s : StagesState) (steps : List Step) → Finishes → HasTaken script ts s → IsSettling script.workload (stages_after script ts) steps
+pub finished_after : (script : Script) (ts : List TakenTurn) (s : StagesState) (steps : List Step) → Finishes → HasTaken script ts s → IsSettling script.workload (stages_after script ts) steps
     → IsFinished (world_of script.workload (events_after script (ts ++ settled_steps steps)))
 finished_after script ts s steps law h settling =
     let load : Workload = script.workload in
@@ -62,10 +62,10 @@ pub record AreSettled (old new : StagesState) : Type 0 where
   pub finished : IsFinished (world_of new.workload new.events)
   pub workload : new.workload ≡ old.workload
 
-pub settled_stages : (old new : StagesState) → Finishes → IsTaken old → Plays IsSettling old new → AreSettled old new
+pub settled_stages : (old new : StagesState) → Finishes → HaveTakenTurns old → Plays IsSettling old new → AreSettled old new
 settled_stages old new law taken plays =
     let played : HasPlayed IsSettling taken.script taken.turns new = plays taken.script taken.turns taken.taken in
-    let ts : List Taken = taken.turns ++ settled_steps played.steps in
+    let ts : List TakenTurn = taken.turns ++ settled_steps played.steps in
     let finished : IsFinished (world_of taken.script.workload (events_after taken.script ts)) = finished_after taken.script taken.turns old played.steps law taken.taken played.are in
     record {
       run = (run_of taken.script ts new played.taken).0;
@@ -90,7 +90,7 @@ replayed script s result settles finished is = record {
   left = is.left;
 }
 
-pub step_fits : (script : Script) (ts : List Taken) (s : StagesState) (items : List Step) (i : ℕ) (x : Step) → items ≡ script.steps → HasTaken script ts s → All (IsStep script.workload) script.steps → i < length items → x ≡ get_or items i x → IsStep s.workload x
+pub step_fits : (script : Script) (ts : List TakenTurn) (s : StagesState) (items : List Step) (i : ℕ) (x : Step) → items ≡ script.steps → HasTaken script ts s → All (IsStep script.workload) script.steps → i < length items → x ≡ get_or items i x → IsStep s.workload x
 step_fits script ts s items i x same h all within is =
     subst (λ l. IsStep l x) (sym h.workload) (subst (IsStep script.workload) (sym is) (All-get_or (IsStep script.workload) items i x within (subst (All (IsStep script.workload)) (sym same) all)))
 

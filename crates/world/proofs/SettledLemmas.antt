@@ -15,13 +15,13 @@ use Rattle.stage_world.specs.LinkTurns.{link_length}
 use Rattle.stage_world.specs.Whole.{datacentre_at}
 use Rattle.abstract_log.specs.Turns.{AreTwo, IsStep}
 use Rattle.stage_world.specs.Schedules.{after_steps, step_of}
-use Rattle.stage_world.specs.Settling.{AreSettlingRounds, Errand, IsSettling, all_marks, after_passes, all_rounds, answering_rounds, below, errand_turns, errands, exchange, exchange_turns, has_unanswered, is_answering, is_due, is_unfinished, marks, rounds, sent_and_delivered, telling_rounds, turns_of_passes}
+use Rattle.stage_world.specs.Settling.{AreSettlingRounds, Errand, IsSettling, all_marks, after_passes, all_rounds, answering_rounds, below, errand_turns, errands, exchange, exchange_turns, has_unanswered, is_answering, has_errand, is_unfinished, marks, rounds, sent_and_delivered, telling_rounds, turns_of_passes}
 use Rattle.world.specs.Settled.{HasLooped, Plays}
 use Rattle.world.specs.Links.{AreThere, packets_at}
 use Rattle.world.proofs.MovingLemmas.{length_are, links_there}
 use Rattle.world.proofs.RoundLemmas.{all_below, take_all}
 use Rattle.world.proofs.SettlingLemmas.{errands_two, rounds_may}
-use Rattle.world.specs.Taking.{HasTaken, IsTaken, StagesState, Taken, settled, stages_after, steps_of}
+use Rattle.world.specs.Taking.{HasTaken, HaveTakenTurns, StagesState, TakenTurn, settled, stages_after, steps_of}
 
 pub after_append : (load : Workload) (z : Stages) (xs ys : List Step) → after_steps load z (xs ++ ys) ≡ after_steps load (after_steps load z xs) ys
 after_append load z [] ys = refl
@@ -31,10 +31,10 @@ steps_settled : (xs : List Step) → steps_of (settled xs) ≡ xs
 steps_settled [] = refl
 steps_settled (x ∷ xs) = ap (λ ys. x ∷ ys) (steps_settled xs)
 
-pub steps_played : (ts : List Taken) (xs : List Step) → steps_of (ts ++ settled xs) ≡ steps_of ts ++ xs
-steps_played ts xs = map-append (λ (t : Taken). t.step) ts (settled xs) ∙ ap (λ ys. steps_of ts ++ ys) (steps_settled xs)
+pub steps_played : (ts : List TakenTurn) (xs : List Step) → steps_of (ts ++ settled xs) ≡ steps_of ts ++ xs
+steps_played ts xs = map-append (λ (t : TakenTurn). t.step) ts (settled xs) ∙ ap (λ ys. steps_of ts ++ ys) (steps_settled xs)
 
-pub stages_played : (script : Script) (ts : List Taken) (xs : List Step) → stages_after script (ts ++ settled xs) ≡ after_steps script.workload (stages_after script ts) xs
+pub stages_played : (script : Script) (ts : List TakenTurn) (xs : List Step) → stages_after script (ts ++ settled xs) ≡ after_steps script.workload (stages_after script ts) xs
 stages_played script ts xs = ap (after_steps script.workload (opening script)) (steps_played ts xs) ∙ after_append script.workload (opening script) (steps_of ts) xs
 
 abbrev Such : Type 1
@@ -45,7 +45,7 @@ pub plays_none : (s : StagesState) → Plays (λ load z xs. xs ≡ []) s s
 plays_none s script ts h = record { steps = []; are = refl; taken = subst (λ us. HasTaken script us s) (sym (append-nil ts)) h }
 
 -- one turn
-pub plays_one : (step : Step) (a b : StagesState) → ((script : Script) (ts : List Taken) → HasTaken script ts a → HasTaken script (ts ++ record { step = step; settling = true } ∷ []) b) → Plays (λ load z xs. xs ≡ step ∷ []) a b
+pub plays_one : (step : Step) (a b : StagesState) → ((script : Script) (ts : List TakenTurn) → HasTaken script ts a → HasTaken script (ts ++ record { step = step; settling = true } ∷ []) b) → Plays (λ load z xs. xs ≡ step ∷ []) a b
 plays_one step a b takes script ts h = record { steps = step ∷ []; are = refl; taken = takes script ts h }
 
 -- the same turns, said in other words
@@ -54,7 +54,7 @@ plays_as P Q a b so plays script ts h =
     let one = plays script ts h in record { steps = one.steps; are = so script.workload (stages_after script ts) one.steps one.are; taken = one.taken }
 
 -- turns, and what is known of the stages after them
-pub plays_knowing : (P : Such) (Q : Stages → Type 0) (a b : StagesState) → Plays P a b → ((script : Script) (ts : List Taken) → HasTaken script ts b → Q (stages_after script ts)) → Plays (λ load z xs. P load z xs × Q (after_steps load z xs)) a b
+pub plays_knowing : (P : Such) (Q : Stages → Type 0) (a b : StagesState) → Plays P a b → ((script : Script) (ts : List TakenTurn) → HasTaken script ts b → Q (stages_after script ts)) → Plays (λ load z xs. P load z xs × Q (after_steps load z xs)) a b
 plays_knowing P Q a b plays known script ts h =
     let one = plays script ts h in
     record {
@@ -76,10 +76,10 @@ plays_then P Q R a b c joins first second script ts h =
     }
 
 -- the stages are those of some turns still, on the same workload
-pub still_taken : (P : Such) (a b : StagesState) → Plays P a b → IsTaken a → IsTaken b
+pub still_taken : (P : Such) (a b : StagesState) → Plays P a b → HaveTakenTurns a → HaveTakenTurns b
 still_taken P a b plays h = let one = plays h.script h.turns h.taken in record { script = h.script; turns = h.turns ++ settled one.steps; taken = one.taken }
 
-pub workload_kept : (P : Such) (a b : StagesState) → Plays P a b → IsTaken a → b.workload ≡ a.workload
+pub workload_kept : (P : Such) (a b : StagesState) → Plays P a b → HaveTakenTurns a → b.workload ≡ a.workload
 workload_kept P a b plays h = (plays h.script h.turns h.taken).taken.workload ∙ sym h.taken.workload
 
 -- Turns of a list
@@ -148,13 +148,13 @@ module _ (goes_on : Stages → Bool) (pass : Workload → Stages → List Step) 
         before = next_before n load z so.0.before (sym (ap goes_on at) ∙ so.1);
       }
 
-  pub one_pass_more : (a b c : StagesState) → Plays (IsSoFar goes_on pass) a b → ((script : Script) (ts : List Taken) → HasTaken script ts b → goes_on (stages_after script ts) ≡ true) → Plays (λ load z xs. xs ≡ pass load z) b c → Plays (IsSoFar goes_on pass) a c
+  pub one_pass_more : (a b c : StagesState) → Plays (IsSoFar goes_on pass) a b → ((script : Script) (ts : List TakenTurn) → HasTaken script ts b → goes_on (stages_after script ts) ≡ true) → Plays (λ load z xs. xs ≡ pass load z) b c → Plays (IsSoFar goes_on pass) a c
   one_pass_more a b c so going next =
       plays_then (λ load z xs. IsSoFar goes_on pass load z xs × (goes_on (after_steps load z xs) ≡ true)) (λ load z xs. xs ≡ pass load z) (IsSoFar goes_on pass) a b c joins_pass
       (plays_knowing (IsSoFar goes_on pass) (λ z. goes_on z ≡ true) a b so going) next
 
   -- nothing was left to do
-  pub loop_done : (a b : StagesState) → Plays (IsSoFar goes_on pass) a b → ((script : Script) (ts : List Taken) → HasTaken script ts b → goes_on (stages_after script ts) ≡ false) → Plays (HasLooped goes_on pass) a b
+  pub loop_done : (a b : StagesState) → Plays (IsSoFar goes_on pass) a b → ((script : Script) (ts : List TakenTurn) → HasTaken script ts b → goes_on (stages_after script ts) ≡ false) → Plays (HasLooped goes_on pass) a b
   loop_done a b so ended =
       plays_as (λ load z xs. IsSoFar goes_on pass load z xs × (goes_on (after_steps load z xs) ≡ false)) (HasLooped goes_on pass) a b
       (λ load z xs is. record { passes = is.0.passes; loop = record { turns = is.0.turns; before = is.0.before; ends = sym (ap goes_on (after_so_far load z xs is.0)) ∙ is.1 } })
@@ -203,7 +203,7 @@ plays_settling a m b c d marked first second last =
     marked (plays_settling_rounds m b c d first second last)
 
 -- the turn that comes next may be taken
-pub item_may : (P : Such) (items : List Step) (i : ℕ) (x : Step) (a b : StagesState) → Plays P a b → IsTaken a → All (IsStep a.workload) items → i < length items → x ≡ get_or items i x → IsStep b.workload x
+pub item_may : (P : Such) (items : List Step) (i : ℕ) (x : Step) (a b : StagesState) → Plays P a b → HaveTakenTurns a → All (IsStep a.workload) items → i < length items → x ≡ get_or items i x → IsStep b.workload x
 item_may P items i x a b plays taken may within here =
     subst (λ l. IsStep l x) (sym (workload_kept P a b plays taken)) (subst (IsStep a.workload) (sym here) (All-get_or (IsStep a.workload) items i x within may))
 
@@ -212,12 +212,12 @@ pub plays_all : (items : List Step) (i : ℕ) (a b : StagesState) → length ite
 plays_all items i a b past = plays_as (AreThese (take i items)) (AreThese items) a b (λ load z xs is. is ∙ take_all items i past)
 
 -- turns that the stages before them decide
-pub plays_these : (steps : List Step) (F : Stages → List Step) (a b : StagesState) → ((script : Script) (ts : List Taken) → HasTaken script ts a → steps ≡ F (stages_after script ts)) → Plays (AreThese steps) a b → Plays (λ load z xs. xs ≡ F z) a b
+pub plays_these : (steps : List Step) (F : Stages → List Step) (a b : StagesState) → ((script : Script) (ts : List TakenTurn) → HasTaken script ts a → steps ≡ F (stages_after script ts)) → Plays (AreThese steps) a b → Plays (λ load z xs. xs ≡ F z) a b
 plays_these steps F a b are plays script ts h =
     let one = plays script ts h in record { steps = one.steps; are = one.are ∙ are script ts h; taken = one.taken }
 
 -- all errands were done
-pub errands_all : (items : List Errand) (i : ℕ) (a b : StagesState) → length items ≤ i → ((script : Script) (ts : List Taken) → HasTaken script ts a → items ≡ errands (stages_after script ts)) → Plays (AreErrands (take i items)) a b → Plays (λ load z xs. xs ≡ exchange_turns load z) a b
+pub errands_all : (items : List Errand) (i : ℕ) (a b : StagesState) → length items ≤ i → ((script : Script) (ts : List TakenTurn) → HasTaken script ts a → items ≡ errands (stages_after script ts)) → Plays (AreErrands (take i items)) a b → Plays (λ load z xs. xs ≡ exchange_turns load z) a b
 errands_all items i a b past are plays script ts h =
     let one = plays script ts h in
     record {
@@ -227,7 +227,7 @@ errands_all items i a b past are plays script ts h =
     }
 
 -- what is to be done next is between two
-pub errand_two : (items : List Errand) (i : ℕ) (x : Errand) (a b : StagesState) → Plays (AreErrands (take i items)) a b → IsTaken a → ((script : Script) (ts : List Taken) → HasTaken script ts a → items ≡ errands (stages_after script ts)) → i < length items → x ≡ get_or items i x
+pub errand_two : (items : List Errand) (i : ℕ) (x : Errand) (a b : StagesState) → Plays (AreErrands (take i items)) a b → HaveTakenTurns a → ((script : Script) (ts : List TakenTurn) → HasTaken script ts a → items ≡ errands (stages_after script ts)) → i < length items → x ≡ get_or items i x
     → AreTwo b.workload.dcs x.from x.to
 errand_two items i x a b plays taken are within here =
     let z : Stages = stages_after taken.script taken.turns in
@@ -238,28 +238,28 @@ errand_two items i x a b plays taken are within here =
 
 -- An errand
 
-pub errand_not_due : (e : Errand) (s : StagesState) → ((script : Script) (ts : List Taken) → HasTaken script ts s → is_due (stages_after script ts) e ≡ false) → Plays (λ load z xs. xs ≡ errand_turns load z e) s s
+pub errand_not_due : (e : Errand) (s : StagesState) → ((script : Script) (ts : List TakenTurn) → HasTaken script ts s → has_errand (stages_after script ts) e ≡ false) → Plays (λ load z xs. xs ≡ errand_turns load z e) s s
 errand_not_due e s not_due script ts h =
     let z : Stages = stages_after script ts in
     record {
       steps = [];
-      are = sym (cond-false (is_due z e) (sent_and_delivered script.workload z e) [] (not_due script ts h));
+      are = sym (cond-false (has_errand z e) (sent_and_delivered script.workload z e) [] (not_due script ts h));
       taken = subst (λ us. HasTaken script us s) (sym (append-nil ts)) h;
     }
 
-pub errand_due : (e : Errand) (a b : StagesState) → ((script : Script) (ts : List Taken) → HasTaken script ts a → is_due (stages_after script ts) e ≡ true) → Plays (λ load z xs. xs ≡ sent_and_delivered load z e) a b → Plays (λ load z xs. xs ≡ errand_turns load z e) a b
+pub errand_due : (e : Errand) (a b : StagesState) → ((script : Script) (ts : List TakenTurn) → HasTaken script ts a → has_errand (stages_after script ts) e ≡ true) → Plays (λ load z xs. xs ≡ sent_and_delivered load z e) a b → Plays (λ load z xs. xs ≡ errand_turns load z e) a b
 errand_due e a b due plays script ts h =
     let z : Stages = stages_after script ts in
     let one = plays script ts h in
     record {
       steps = one.steps;
-      are = one.are ∙ sym (cond-true (is_due z e) (sent_and_delivered script.workload z e) [] (due script ts h));
+      are = one.are ∙ sym (cond-true (has_errand z e) (sent_and_delivered script.workload z e) [] (due script ts h));
       taken = one.taken;
     }
 
 -- a message is sent, and the packet that is then the newest delivered
 pub sends_and_delivers : (e : Errand) (n : ℕ) (a b c : StagesState) → Plays (λ load z xs. xs ≡ Send e.from e.sender e.to ∷ []) a b
-    → ((script : Script) (ts : List Taken) → HasTaken script ts b → n ≡ link_length (stages_after script ts) e.from e.to)
+    → ((script : Script) (ts : List TakenTurn) → HasTaken script ts b → n ≡ link_length (stages_after script ts) e.from e.to)
     → Plays (λ load z xs. xs ≡ Deliver e.from e.to n 0 ∷ []) b c → Plays (λ load z xs. xs ≡ sent_and_delivered load z e) a c
 sends_and_delivers e n a b c sent newest delivered =
     let send : Step = Send e.from e.sender e.to in
@@ -271,46 +271,46 @@ sends_and_delivers e n a b c sent newest delivered =
     delivered
 
 -- the link is there, and has as many packets as messages
-pub link_of : (script : Script) (ts : List Taken) (s : StagesState) (d e : ℕ) → HasTaken script ts s → AreTwo s.workload.dcs d e → AreThere d e s.network.links
+pub link_of : (script : Script) (ts : List TakenTurn) (s : StagesState) (d e : ℕ) → HasTaken script ts s → AreTwo s.workload.dcs d e → AreThere d e s.network.links
 link_of script ts s d e h two =
     let dcs : s.workload.dcs ≡ script.workload.dcs = ap (λ (l : Workload). l.dcs) h.workload in
     links_there script.workload.dcs (stages_after script ts) s.network d e h.shown (omega (arith, two.first, dcs)) (omega (arith, two.second, dcs))
 
-pub count_of_link : (script : Script) (ts : List Taken) (s : StagesState) (d e : ℕ) → HasTaken script ts s → length (packets_at s.network.links d e) ≡ link_length (stages_after script ts) d e
+pub count_of_link : (script : Script) (ts : List TakenTurn) (s : StagesState) (d e : ℕ) → HasTaken script ts s → length (packets_at s.network.links d e) ≡ link_length (stages_after script ts) d e
 count_of_link script ts s d e h = length_are script.workload.dcs (stages_after script ts) s.network d e h.shown
 
 -- the last turn, whatever came of it
-pub ended_with : {T E : Type 0} (r : Result T E) (P : Type 0) (step : Step) (b c : StagesState) → ((script : Script) (ts : List Taken) → HasTaken script ts b → OnOk r (HasTaken script (ts ++ record { step = step; settling = true } ∷ []) c))
+pub ended_with : {T E : Type 0} (r : Result T E) (P : Type 0) (step : Step) (b c : StagesState) → ((script : Script) (ts : List TakenTurn) → HasTaken script ts b → OnOk r (HasTaken script (ts ++ record { step = step; settling = true } ∷ []) c))
     → (Plays (λ load z xs. xs ≡ step ∷ []) b c → P) → OnOk r P
 ended_with (Ok v) P step b c takes so = so (plays_one step b c takes)
 ended_with (Err e) P step b c takes so = tt
 
 -- steps that the stages decide may be played
-pub decided_may : (steps : List Step) (ds : List ℕ) (s : StagesState) → (h : IsTaken s) → All (λ d. d < s.workload.dcs) ds → steps ≡ rounds (stages_after h.script h.turns) ds → All (IsStep s.workload) steps
+pub decided_may : (steps : List Step) (ds : List ℕ) (s : StagesState) → (h : HaveTakenTurns s) → All (λ d. d < s.workload.dcs) ds → steps ≡ rounds (stages_after h.script h.turns) ds → All (IsStep s.workload) steps
 decided_may steps ds s h there are = subst (All (IsStep s.workload)) (sym are) (rounds_may h.script h.turns s ds h.taken there)
 
 -- rounds of datacentres that the stages decide
-pub plays_rounds : (ds : List ℕ) (F : Workload → Stages → List Step) (a b : StagesState) → ((script : Script) (ts : List Taken) → HasTaken script ts a → rounds (stages_after script ts) ds ≡ F script.workload (stages_after script ts))
+pub plays_rounds : (ds : List ℕ) (F : Workload → Stages → List Step) (a b : StagesState) → ((script : Script) (ts : List TakenTurn) → HasTaken script ts a → rounds (stages_after script ts) ds ≡ F script.workload (stages_after script ts))
     → Plays (λ load z xs. xs ≡ rounds z ds) a b → Plays (λ load z xs. xs ≡ F load z) a b
 plays_rounds ds F a b are plays script ts h =
     let one = plays script ts h in record { steps = one.steps; are = one.are ∙ are script ts h; taken = one.taken }
 
 -- all datacentres
 
-count_after : (script : Script) (ts : List Taken) (s : StagesState) → HasTaken script ts s → length (stages_after script ts).datacentres ≡ s.workload.dcs
+count_after : (script : Script) (ts : List TakenTurn) (s : StagesState) → HasTaken script ts s → length (stages_after script ts).datacentres ≡ s.workload.dcs
 count_after script ts s h = h.shown.count ∙ ap (λ (l : Workload). l.dcs) (sym h.workload)
 
-pub all_are : (script : Script) (ts : List Taken) (s : StagesState) (ds : List ℕ) → HasTaken script ts s → ds ≡ below s.workload.dcs → rounds (stages_after script ts) ds ≡ all_rounds (stages_after script ts)
+pub all_are : (script : Script) (ts : List TakenTurn) (s : StagesState) (ds : List ℕ) → HasTaken script ts s → ds ≡ below s.workload.dcs → rounds (stages_after script ts) ds ≡ all_rounds (stages_after script ts)
 all_are script ts s ds h is = ap (rounds (stages_after script ts)) (is ∙ ap below (sym (count_after script ts s h)))
 
-pub marks_are : (script : Script) (ts : List Taken) (s : StagesState) (steps : List Step) → HasTaken script ts s → steps ≡ flat_map marks (below s.workload.dcs) → steps ≡ all_marks (stages_after script ts)
+pub marks_are : (script : Script) (ts : List TakenTurn) (s : StagesState) (steps : List Step) → HasTaken script ts s → steps ≡ flat_map marks (below s.workload.dcs) → steps ≡ all_marks (stages_after script ts)
 marks_are script ts s steps h is = is ∙ ap (λ n. flat_map marks (below n)) (sym (count_after script ts s h))
 
 pub all_within : (s : StagesState) (ds : List ℕ) → ds ≡ below s.workload.dcs → All (λ d. d < s.workload.dcs) ds
 all_within s ds is = subst (All (λ d. d < s.workload.dcs)) (sym is) (all_below s.workload.dcs)
 
 -- those with a command that is not answered
-pub answering_within : (s : StagesState) (ds : List ℕ) → (h : IsTaken s) → ds ≡ filter (λ d. has_unanswered (datacentre_at (stages_after h.script h.turns) d)) (below (length (stages_after h.script h.turns).datacentres)) → All (λ d. d < s.workload.dcs) ds
+pub answering_within : (s : StagesState) (ds : List ℕ) → (h : HaveTakenTurns s) → ds ≡ filter (λ d. has_unanswered (datacentre_at (stages_after h.script h.turns) d)) (below (length (stages_after h.script h.turns).datacentres)) → All (λ d. d < s.workload.dcs) ds
 answering_within s ds h is =
     let z : Stages = stages_after h.script h.turns in
     subst (All (λ d. d < s.workload.dcs)) (sym is)
@@ -318,7 +318,7 @@ answering_within s ds h is =
     (subst (λ n. All (λ d. d < n) (below (length z.datacentres))) (count_after h.script h.turns s h.taken) (all_below (length z.datacentres))))
 
 -- so it is after turns
-pub link_after : (P : Such) (a b s : StagesState) (x : Errand) → IsTaken a → AreTwo a.workload.dcs x.from x.to → Plays P a b → b ≡ s → AreThere x.from x.to s.network.links
+pub link_after : (P : Such) (a b s : StagesState) (x : Errand) → HaveTakenTurns a → AreTwo a.workload.dcs x.from x.to → Plays P a b → b ≡ s → AreThere x.from x.to s.network.links
 link_after P a b s x taken two plays same =
     let one = plays taken.script taken.turns taken.taken in
     let dcs : a.workload.dcs ≡ b.workload.dcs = ap (λ (l : Workload). l.dcs) (sym (workload_kept P a b plays taken)) in

@@ -13,12 +13,12 @@ use Rattle.abstract_log.specs.Worlds.{log_of}
 use Rattle.abstract_log.specs.Runs.{world_of}
 use Rattle.stage_world.specs.Opening.{numbered}
 use Rattle.abstract_log.specs.Turns.{AreTwo, IsStep}
-use Rattle.stage_world.specs.Settling.{Errand, below, clients, errands, flushes, gossips, local_round, mark_turns, marks, passes, places, posts, ring, rounds}
+use Rattle.stage_world.specs.Settling.{Errand, below, clients, errands, flushes, gossips, local_round, mark_turns, marks, pass_lines, places, posts, ring, rounds}
 use Rattle.stage_world.specs.Stages.{Datacentre, Session, Stages}
 use Rattle.stage_world.specs.StandsFor.{IsAsFar, StandsAt}
 use Rattle.stage_world.specs.Whole.{StandsFor, datacentre_at}
 use Rattle.world.specs.Settled.{errands_between, errands_from}
-use Rattle.world.specs.Taking.{HasTaken, StagesState, Taken, stages_after}
+use Rattle.world.specs.Taking.{HasTaken, StagesState, TakenTurn, stages_after}
 use Rattle.world.proofs.RoundLemmas.{all_below, all_flat, all_numbered}
 use Rattle.world.proofs.TakingLemmas.{run_of}
 
@@ -50,20 +50,20 @@ module _ (load : Workload) (d : ℕ) (z : Datacentre) (within : d < load.dcs) wh
   round_good there =
       let G : Step → Type 0 = IsStep load in
       let flush : All G (flushes d z) = all_numbered G (Flush d) (length z.batchers) (λ b less. within) in
-      let pass : All G (passes d z) = all_numbered G (λ f. Pass d f (f % length z.queues)) (length z.filters) (λ f less. within) in
+      let pass : All G (pass_lines d z) = all_numbered G (λ f. Pass d f (f % length z.queues)) (length z.filters) (λ f less. within) in
       let one = All-append G (clients z) (flushes d z) (clients_good there) flush in
-      let two = All-append G (clients z ++ flushes d z) (passes d z) one pass in
-      let three = All-append G (clients z ++ flushes d z ++ passes d z) (ring d z) two ring_good in
-      let four = All-append G (clients z ++ flushes d z ++ passes d z ++ ring d z) (places d z) three places_good in
-      let five = All-append G (clients z ++ flushes d z ++ passes d z ++ ring d z ++ places d z) (gossips d z) four gossips_good in
-      let six = All-append G (clients z ++ flushes d z ++ passes d z ++ ring d z ++ places d z ++ gossips d z) (posts d z) five posts_good in
-      All-append G (clients z ++ flushes d z ++ passes d z ++ ring d z ++ places d z ++ gossips d z ++ posts d z) (Learn d ∷ []) six (All-cons G (Learn d) [] within (All-nil G))
+      let two = All-append G (clients z ++ flushes d z) (pass_lines d z) one pass in
+      let three = All-append G (clients z ++ flushes d z ++ pass_lines d z) (ring d z) two ring_good in
+      let four = All-append G (clients z ++ flushes d z ++ pass_lines d z ++ ring d z) (places d z) three places_good in
+      let five = All-append G (clients z ++ flushes d z ++ pass_lines d z ++ ring d z ++ places d z) (gossips d z) four gossips_good in
+      let six = All-append G (clients z ++ flushes d z ++ pass_lines d z ++ ring d z ++ places d z ++ gossips d z) (posts d z) five posts_good in
+      All-append G (clients z ++ flushes d z ++ pass_lines d z ++ ring d z ++ places d z ++ gossips d z ++ posts d z) (Learn d ∷ []) six (All-cons G (Learn d) [] within (All-nil G))
 
 -- the sessions of a datacentre are there
 sessions_there : (w : World) (d : ℕ) (z : Datacentre) → StandsAt w d z → All (λ (x : Session). x.number < length w.workload.sessions) z.sessions
 sessions_there w d z stands = All-weaker (IsAsFar w.workload w.sessions (log_of w d) d z.floor) (λ (x : Session). x.number < length w.workload.sessions) (λ x far. far.home.there) z.sessions stands.clients.sessions
 
-pub rounds_may : (script : Script) (ts : List Taken) (s : StagesState) (ds : List ℕ) → HasTaken script ts s → All (λ d. d < s.workload.dcs) ds → All (IsStep s.workload) (rounds (stages_after script ts) ds)
+pub rounds_may : (script : Script) (ts : List TakenTurn) (s : StagesState) (ds : List ℕ) → HasTaken script ts s → All (λ d. d < s.workload.dcs) ds → All (IsStep s.workload) (rounds (stages_after script ts) ds)
 rounds_may script ts s ds h there =
     let w : World = world_of s.workload s.events in
     let z : Stages = stages_after script ts in

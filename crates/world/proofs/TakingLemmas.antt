@@ -25,7 +25,7 @@ use Rattle.datacentre.specs.Leaving.{IsLeftBy}
 use Rattle.world.specs.declared.network.Network.{Network}
 use Rattle.world.specs.declared.stages.Played.{Played}
 use Rattle.world.specs.Showing.{HasMoved, MayStep, Shows, TellsIdle}
-use Rattle.world.specs.Taking.{AreLines, HasTaken, IsBefore, IsPlayed, IsTaken, StagesState, Taken, events_after, line_of, lines_told, stages_after, steps_of}
+use Rattle.world.specs.Taking.{AreLines, HasTaken, IsBefore, IsPlayed, HaveTakenTurns, StagesState, TakenTurn, events_after, line_of, lines_told, stages_after, steps_of}
 use Rattle.world.proofs.LeftLemmas.{left_of_all}
 
 pub after_push : (load : Workload) (z : Stages) (ts : List Step) (t : Step) → after_steps load z (ts ++ t ∷ []) ≡ (step_of load (after_steps load z ts) t).after
@@ -44,7 +44,7 @@ before_push idle line rest lines more before = elim before [
   | inr left ↦ inr (ap (λ ls. ls ++ more) left.0, left.1, left.2)
 ]
 
-pub lines_push : (load : Workload) (z : Stages) (ts : List Taken) (t : Taken) (lines more : List StageLine) → AreLines load z ts lines
+pub lines_push : (load : Workload) (z : Stages) (ts : List TakenTurn) (t : TakenTurn) (lines more : List StageLine) → AreLines load z ts lines
     → IsBefore (IsIdleTurn load (after_steps load z (steps_of ts)) t.step) (line_of load (after_steps load z (steps_of ts)) t) [] more → AreLines load z (ts ++ t ∷ []) (lines ++ more)
 lines_push load z [] t lines more are before = ([], subst (λ ls. IsBefore (IsIdleTurn load z t.step) (line_of load z t) [] (ls ++ more)) (sym are) before, refl)
 lines_push load z (s ∷ ts) t lines more are before =
@@ -64,14 +64,14 @@ wrote_if load z step true false outcome tells = inr (refl, refl, tells.idle refl
 
 -- Stages that have taken turns stand for the world of their run.
 
-pub run_of : (script : Script) (ts : List Taken) (s : StagesState) → HasTaken script ts s → IsRun s.workload s.events × StandsFor (world_of s.workload s.events) (stages_after script ts)
+pub run_of : (script : Script) (ts : List TakenTurn) (s : StagesState) → HasTaken script ts s → IsRun s.workload s.events × StandsFor (world_of s.workload s.events) (stages_after script ts)
 run_of script ts s h =
     let run = schedule script (steps_of ts) h.fits h.steps in (
       subst (λ l. IsRun l s.events) (sym h.workload) (subst (IsRun script.workload) (sym h.events) run.0),
       subst (λ l. StandsFor (world_of l s.events) (stages_after script ts)) (sym h.workload) (subst (λ es. StandsFor (world_of script.workload es) (stages_after script ts)) (sym h.events) run.1),
     )
 
-pub may_take : (script : Script) (ts : List Taken) (s : StagesState) (step : Step) → HasTaken script ts s → IsStep s.workload step → MayStep s.workload step (stages_after script ts) s.network
+pub may_take : (script : Script) (ts : List TakenTurn) (s : StagesState) (step : Step) → HasTaken script ts s → IsStep s.workload step → MayStep s.workload step (stages_after script ts) s.network
 may_take script ts s step h good =
     let run = run_of script ts s h in
     record {
@@ -84,7 +84,7 @@ may_take script ts s step h good =
     }
 
 -- some turns were taken, so one more may be
-pub may_take_some : (s : StagesState) (step : Step) → IsTaken s → IsStep s.workload step → (z : Stages) × MayStep s.workload step z s.network
+pub may_take_some : (s : StagesState) (step : Step) → HaveTakenTurns s → IsStep s.workload step → (z : Stages) × MayStep s.workload step z s.network
 may_take_some s step h good = (stages_after h.script h.turns, may_take h.script h.turns s step h.taken good)
 
 -- the state after one more turn
@@ -102,13 +102,13 @@ module _ (s : StagesState) (step : Step) (settling : Bool) (network : Network) (
   abbrev Moves : Stages → Type 0
   Moves z = HasMoved s.workload.dcs (step_of s.workload z step) network done × Wrote s.workload z step settling done.outcome more
 
-  pub taken_next : (script : Script) (ts : List Taken) → HasTaken script ts s → Moves (stages_after script ts) → HasTaken script (ts ++ record { step = step; settling = settling } ∷ []) (state_with s network done.events more)
+  pub taken_next : (script : Script) (ts : List TakenTurn) → HasTaken script ts s → Moves (stages_after script ts) → HasTaken script (ts ++ record { step = step; settling = settling } ∷ []) (state_with s network done.events more)
   taken_next script ts h does =
       let load : Workload = script.workload in
       let z : Stages = opening script in
       let now : Stages = stages_after script ts in
-      let t : Taken = record { step = step; settling = settling } in
-      let steps : steps_of (ts ++ t ∷ []) ≡ steps_of ts ++ step ∷ [] = map_push (λ (x : Taken). x.step) ts t in
+      let t : TakenTurn = record { step = step; settling = settling } in
+      let steps : steps_of (ts ++ t ∷ []) ≡ steps_of ts ++ step ∷ [] = map_push (λ (x : TakenTurn). x.step) ts t in
       let here : HasMoved load.dcs (step_of load now step) network done = subst (λ (l : Workload). HasMoved l.dcs (step_of l now step) network done) h.workload does.0 in
       let wrote : Wrote load now step settling done.outcome more = subst (λ (l : Workload). Wrote l now step settling done.outcome more) h.workload does.1 in
       record {
@@ -123,14 +123,14 @@ module _ (s : StagesState) (step : Step) (settling : Bool) (network : Network) (
             (subst (λ (o : Outcome). Wrote load now step settling o more) here.outcome wrote);
       }
 
-  pub some_next : ((z : Stages) → MayStep s.workload step z s.network → Moves z) → IsTaken s → IsTaken (state_with s network done.events more)
+  pub some_next : ((z : Stages) → MayStep s.workload step z s.network → Moves z) → HaveTakenTurns s → HaveTakenTurns (state_with s network done.events more)
   some_next moves h = record {
     script = h.script;
     turns = h.turns ++ record { step = step; settling = settling } ∷ [];
     taken = taken_next h.script h.turns h.taken (moves (stages_after h.script h.turns) (may_take h.script h.turns s step h.taken good));
   }
 
-pub played : (script : Script) (ts : List Taken) (s : StagesState) (result : Played) → HasTaken script ts s → result.run.workload ≡ s.workload → result.run.events ≡ s.events → result.stages ≡ s.lines
+pub played : (script : Script) (ts : List TakenTurn) (s : StagesState) (result : Played) → HasTaken script ts s → result.run.workload ≡ s.workload → result.run.events ≡ s.events → result.stages ≡ s.lines
     → AllZip IsLeftBy s.network.datacentres result.left → IsPlayed script ts result
 played script ts s result h workload events lines left =
     let run = schedule script (steps_of ts) h.fits h.steps in
@@ -157,13 +157,13 @@ module _ (s : StagesState) (step : Step) (settling : Bool) (network : Network) (
   written : state_with s network done.events more ≡ new
   written = ap₂ (λ (a : List Event) (b : List StageLine). record { workload = s.workload; network = network; events = a; lines = b; failed = false }) (sym events) (sym lines)
 
-  pub some_written : IsTaken s → IsTaken new
-  some_written h = subst IsTaken written (some_next s step settling network done more good moves h)
+  pub some_written : HaveTakenTurns s → HaveTakenTurns new
+  some_written h = subst HaveTakenTurns written (some_next s step settling network done more good moves h)
 
-  pub taken_written : (script : Script) (ts : List Taken) → HasTaken script ts s → HasTaken script (ts ++ record { step = step; settling = settling } ∷ []) new
+  pub taken_written : (script : Script) (ts : List TakenTurn) → HasTaken script ts s → HasTaken script (ts ++ record { step = step; settling = settling } ∷ []) new
   taken_written script ts h =
       subst (HasTaken script (ts ++ record { step = step; settling = settling } ∷ [])) written
       (taken_next s step settling network done more good script ts h (moves (stages_after script ts) (may_take script ts s step h good)))
 
-  pub run_written : IsTaken s → IsRun s.workload es
-  run_written h = let is : IsTaken new = some_written h in (run_of is.script is.turns new is.taken).0
+  pub run_written : HaveTakenTurns s → IsRun s.workload es
+  run_written h = let is : HaveTakenTurns new = some_written h in (run_of is.script is.turns new is.taken).0

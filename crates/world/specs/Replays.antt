@@ -8,10 +8,10 @@ use Rattle.stage_world.specs.Opening.{opening}
 use Rattle.stage_world.specs.Schedules.{after_steps}
 use Rattle.stage_world.specs.Settling.{IsSettling}
 use Rattle.world.specs.declared.stages.Played.{Played}
-use Rattle.world.specs.Taking.{AreLines, Taken, events_after, settled, taken_of}
+use Rattle.world.specs.Taking.{AreLines, TakenTurn, events_after, settled, taken_of}
 
 -- The turns of a script: its own steps, and then those of settling.
-abbrev pub turns_of : Script → List Step → List Taken
+abbrev pub turns_of : Script → List Step → List TakenTurn
 turns_of script settling = taken_of script.steps ++ settled settling
 
 -- The run is one on the script's workload. Its turns are the script's steps, and then exactly the turns by which the stages settle from

@@ -14,17 +14,17 @@ use Rattle.stage_world.specs.Whole.{StandsFor}
 use Rattle.settling_laws.specs.Ending.{AreQuiet}
 use Rattle.datacentre.specs.Seen.{DatacentreState, StandsForALog}
 use Rattle.world.specs.Showing.{states_from}
-use Rattle.world.specs.Taking.{HasTaken, StagesState, Taken, settled, stages_after}
+use Rattle.world.specs.Taking.{HasTaken, StagesState, TakenTurn, settled, stages_after}
 
 -- The stages went on from those after these turns: they took more turns of settling, which are such turns.
-pub record HasPlayed (such : Workload → Stages → List Step → Type 0) (script : Script) (ts : List Taken) (new : StagesState) : Type 0 where
+pub record HasPlayed (such : Workload → Stages → List Step → Type 0) (script : Script) (ts : List TakenTurn) (new : StagesState) : Type 0 where
   pub steps : List Step
   pub are : such script.workload (stages_after script ts) steps
   pub taken : HasTaken script (ts ++ settled steps) new
 
 -- whatever turns were taken, such turns of settling were taken after them
 abbrev pub Plays : (Workload → Stages → List Step → Type 0) → StagesState → StagesState → Type 0
-Plays such old new = (script : Script) (ts : List Taken) → HasTaken script ts old → HasPlayed such script ts new
+Plays such old new = (script : Script) (ts : List TakenTurn) → HasTaken script ts old → HasPlayed such script ts new
 
 -- a loop of so many passes
 pub record HasLooped (goes_on : Stages → Bool) (pass : Workload → Stages → List Step) (load : Workload) (z : Stages) (steps : List Step) : Type 0 where

@@ -1,13 +1,11 @@
 -- The datacentres and links of the code, and the stage world that they show.
-use Rattle.std.specs.Prelude.{◌≡◌, ℕ, ◌+◌, ◌<◌, ◌∷◌, Bool, true, false, List, [], length, map, slice_index_or, slice_set, All, Option, Some}
+use Rattle.std.specs.Prelude.{◌≡◌, ℕ, ◌+◌, ◌<◌, ◌∷◌, Bool, true, false, List, [], length, slice_index_or, slice_set, All, Option, Some}
 use Rattle.abstract_log.specs.declared.command.Workload.{Workload}
 use Rattle.abstract_log.specs.declared.script.Script.{Script}
 use Rattle.abstract_log.specs.declared.script.Step.{Step}
-use Rattle.abstract_log.specs.declared.script.Step.TheVariants.{Client, Flush, Pass, Stamp, Token, Place, Gossip, Post, Learn, Send, Deliver, Lose, Copy, Floor, Collect, Announce, Mark, AddMaintainer, AddBatcher, AddQueue, AddSender, AddReceiver}
+use Rattle.abstract_log.specs.declared.script.Step.TheVariants.{Client, Flush, Pass, Stamp, Token, Place, Gossip, Post, Learn, Send, Deliver, Lose, Copy, Floor, Collect, Announce, Mark, AddMaintainer, AddBatcher, AddQueue, AddSender, AddReceiver, Upgrade}
 use Rattle.abstract_log.specs.declared.world.World.{World}
 use Rattle.log_laws.specs.Lawful.{IsLawful}
-use Rattle.record_codec.specs.declared.message.Message.{Message}
-use Rattle.record_codec.specs.Wire.{message_bytes}
 use Rattle.stage_world.specs.Stages.{Datacentre, Stages}
 use Rattle.stage_world.specs.Opening.{one_of_each, opening_at}
 use Rattle.stage_world.specs.LinkTurns.{Moved}
@@ -20,6 +18,7 @@ use Rattle.stage_world.specs.Turns.{Turned}
 use Rattle.datacentre.specs.Seen.{DatacentreState, StandsForALog}
 use Rattle.stage_turns.specs.Told.{IsToldBy}
 use Rattle.world.specs.declared.network.Network.{Network}
+use Rattle.world.specs.Links.{AreLinked}
 use Rattle.datacentre.specs.Turning.{IsOwnStep, IsPacketOf}
 
 -- datacentres from number n on, of which none has failed
@@ -31,17 +30,10 @@ states_from n (z ∷ zs) = record { dc = n; stages = Some z } ∷ states_from (n
 abbrev pub opened_at : Script → ℕ → Datacentre
 opened_at script d = opening_at script.round (slice_index_or script.sizes d one_of_each) script.workload d
 
--- the packets that spell the messages of a link between two of so many datacentres, and those of all links
-abbrev pub packets_of : ℕ → List Message → List (List ℕ)
-packets_of dcs ms = map (message_bytes dcs) ms
-
-abbrev pub rows_of : ℕ → List (List (List Message)) → List (List (List (List ℕ)))
-rows_of dcs links = map (λ row. map (packets_of dcs) row) links
-
 -- The datacentres are those of the stage world, and each link has the packets that spell its messages.
 pub record Shows (dcs : ℕ) (z : Stages) (network : Network) : Type 0 where
   pub datacentres : network.datacentres ≡ states_from 0 z.datacentres
-  pub links : network.links ≡ rows_of dcs z.links
+  pub links : AreLinked dcs network.links z.links
   pub count : length z.datacentres ≡ dcs
   pub rows : length z.links ≡ dcs
   pub columns : All (λ row. length row ≡ dcs) z.links
@@ -81,6 +73,7 @@ uses_link (AddBatcher d) = false
 uses_link (AddQueue d) = false
 uses_link (AddSender d) = false
 uses_link (AddReceiver d) = false
+uses_link (Upgrade d) = false
 
 -- Of these datacentres, number d has the stages z.
 pub record IsSeenAt (d : ℕ) (z : Datacentre) (datacentres : List DatacentreState) : Type 0 where

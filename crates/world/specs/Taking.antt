@@ -20,22 +20,22 @@ use Rattle.world.specs.declared.stages.Played.{Played}
 use Rattle.world.specs.Showing.{Shows}
 
 -- a turn that was taken, and whether it belongs to settling
-pub record Taken : Type 0 where
+pub record TakenTurn : Type 0 where
   pub step : Step
   pub settling : Bool
 
-abbrev pub steps_of : List Taken → List Step
+abbrev pub steps_of : List TakenTurn → List Step
 steps_of ts = map (λ t. t.step) ts
 
 -- the turns of a script's own steps, and of settling
-abbrev pub taken_of : List Step → List Taken
+abbrev pub taken_of : List Step → List TakenTurn
 taken_of steps = map (λ s. record { step = s; settling = false }) steps
 
-abbrev pub settled : List Step → List Taken
+abbrev pub settled : List Step → List TakenTurn
 settled steps = map (λ s. record { step = s; settling = true }) steps
 
 -- the stage line of a turn from stages z on
-abbrev pub line_of : Workload → Stages → Taken → StageLine
+abbrev pub line_of : Workload → Stages → TakenTurn → StageLine
 line_of load z t = record { step = t.step; outcome = (step_of load z t.step).outcome; settling = t.settling }
 
 -- These lines are a line before these others, or the others alone: that of a turn of settling is left out exactly where the turn is idle.
@@ -49,16 +49,16 @@ abbrev pub lines_told : Step → Outcome → Bool → Bool → List StageLine
 lines_told step outcome settling changed = if changed || not settling then record { step = step; outcome = outcome; settling = settling } ∷ [] else []
 
 -- The stage lines of turns from stages z on: one for each turn, but for those of settling that are idle.
-abbrev pub AreLines : Workload → Stages → List Taken → List StageLine → Type 0
+abbrev pub AreLines : Workload → Stages → List TakenTurn → List StageLine → Type 0
 AreLines load z [] lines = lines ≡ []
 AreLines load z (t ∷ ts) lines =
     (more : List StageLine) × IsBefore (IsIdleTurn load z t.step) (line_of load z t) more lines × AreLines load (step_of load z t.step).after ts more
 
 -- the stages after turns, and their events
-abbrev pub stages_after : Script → List Taken → Stages
+abbrev pub stages_after : Script → List TakenTurn → Stages
 stages_after script ts = after_steps script.workload (opening script) (steps_of ts)
 
-abbrev pub events_after : Script → List Taken → List Event
+abbrev pub events_after : Script → List TakenTurn → List Event
 events_after script ts = events_of script.workload (opening script) (steps_of ts)
 
 -- what contracts see of all stages: the workload, the datacentres and links, what was written, and whether memory was wanted
@@ -70,7 +70,7 @@ pub record StagesState : Type 0 where
   pub failed : Bool
 
 -- These are the stages that the script opens, after these turns; the events and the lines are those of the turns.
-pub record HasTaken (script : Script) (ts : List Taken) (s : StagesState) : Type 0 where
+pub record HasTaken (script : Script) (ts : List TakenTurn) (s : StagesState) : Type 0 where
   pub fits : FitsScript script
   pub steps : All (IsStep script.workload) (steps_of ts)
   pub well : s.failed ≡ false
@@ -80,14 +80,14 @@ pub record HasTaken (script : Script) (ts : List Taken) (s : StagesState) : Type
   pub lines : AreLines script.workload (opening script) ts s.lines
 
 -- These are stages that some script opens, after some turns.
-pub record IsTaken (s : StagesState) : Type 0 where
+pub record HaveTakenTurns (s : StagesState) : Type 0 where
   pub script : Script
-  pub turns : List Taken
+  pub turns : List TakenTurn
   pub taken : HasTaken script turns s
 
 -- What was written is a run on the script's workload, the one of these turns, with their lines; the stages after the turns stand
 -- for the world that the run leaves, and what is told to be left is what that world has.
-pub record IsPlayed (script : Script) (ts : List Taken) (played : Played) : Type 0 where
+pub record IsPlayed (script : Script) (ts : List TakenTurn) (played : Played) : Type 0 where
   pub workload : played.run.workload ≡ script.workload
   pub events : played.run.events ≡ events_after script ts
   pub lines : AreLines script.workload (opening script) ts played.stages

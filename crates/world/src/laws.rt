@@ -3,10 +3,10 @@ ghost use Rattle.std.specs.Prelude.{◌≡◌, List};
 ghost use Rattle.abstract_log.specs.declared.script.Script.{Script};
 ghost use Rattle.abstract_log.specs.Runs.{IsRun, world_of};
 ghost use Rattle.stage_world.specs.Whole.{StandsFor};
-ghost use Rattle.world.specs.Taking.{HasTaken, StagesState, Taken, stages_after};
+ghost use Rattle.world.specs.Taking.{HasTaken, StagesState, TakenTurn, stages_after};
 
 /// Whatever turns were taken, the events that were written are a run on the workload, and the stages after the turns stand
 /// for the world that it leaves.
 pub fn turns_are_runs()
-    ensures { (script : Script) (ts : List Taken) (s : StagesState) → HasTaken script ts s → IsRun s.workload s.events × StandsFor (world_of s.workload s.events) (stages_after script ts) }
+    ensures { (script : Script) (ts : List TakenTurn) (s : StagesState) → HasTaken script ts s → IsRun s.workload s.events × StandsFor (world_of s.workload s.events) (stages_after script ts) }
 {}

@@ -6,7 +6,7 @@
 //! leaves. `replay` takes the script's steps and then the turns of settling, and that run is finished: every command is
 //! answered, and every log has every record.
 //!
-//! Tests: the crate `test_world`, and the scripts of the program.
+//! Tests: the crates `test_world` and `test_program`.
 #![tactic(auto)]
 
 mod exchanges;

@@ -1,10 +1,13 @@
 //! The turns that use a link, as the packets in it see them.
-ghost use Rattle.std.specs.Prelude.{◌≡◌, ◌<◌, ℕ, false, true, [], if◌then◌else◌, is_some, length, None, List, OnOk, IfOk};
+ghost use Rattle.std.specs.Prelude.{◌≡◌, ◌<◌, ◌≤◌, ℕ, false, true, [], if◌then◌else◌, is_some, length, None, List, OnOk, IfOk};
+ghost use Rattle.cz_base.specs.declared.limits.TheConstants.{DATACENTRES};
 ghost use Rattle.std.specs.Option.{ForSome};
 ghost use Rattle.abstract_log.specs.declared.script.Outcome.TheVariants.{Absent, Lost, Sent};
 ghost use Rattle.stage_world.specs.Idle.{TellsApart};
 ghost use Rattle.lossy_links.specs.Links.{copied, lost_by_put, message_at, put_last, without};
-ghost use Rattle.world.specs.Links.{AreThere, copy_outcome, lose_outcome, outcome_of_copy, packets_at, with_packets};
+ghost use Rattle.record_codec.specs.declared.message.Message.{Message};
+ghost use Rattle.record_codec.specs.Wire.{SpellsMessage};
+ghost use Rattle.world.specs.Links.{AreSpelled, AreThere, copy_outcome, lose_outcome, outcome_of_copy, packets_at, with_packets};
 
 use crate::packets::{CopyDone, copy, packets_in, put, take_out};
 use abstract_log::Outcome;
@@ -19,19 +22,20 @@ pub(crate) fn put_sent(
     e: DcId,
     done: TurnDone,
     packet: Option<Packet>,
-) -> TurnDone
-    requires { AreThere d e links.old }
-    ensures absent { packet ≡ None → (links.new ≡ links.old) × (result ≡ done) }
-    ensures links { ForSome packet (λ bytes. links.new ≡ with_packets links.old d e (put_last (packets_at links.old d e) bytes)) }
-    ensures outcome { ForSome packet (λ bytes. (names : List (ℕ × ℕ)) → done.outcome ≡ Sent names 0 false → result.outcome ≡ Sent names (length (packets_at links.new d e)) (is_some (lost_by_put (packets_at links.old d e)))) }
-    ensures events { result.events ≡ done.events }
-    ensures changed { ForSome packet (λ bytes. TellsApart result.changed (packets_at links.old d e) (put_last (packets_at links.old d e) bytes)) }
+) -> Result<TurnDone, NoMemory>
+    requires there { AreThere d e links.old }
+    requires few { length links.old ≤ DATACENTRES }
+    ensures absent { packet ≡ None → (links.new ≡ links.old) × IfOk result (λ told. told ≡ done) }
+    ensures links { ForSome packet (λ bytes. OnOk result (links.new ≡ with_packets links.old d e (put_last (packets_at links.old d e) bytes))) }
+    ensures outcome { ForSome packet (λ bytes. (names : List (ℕ × ℕ)) → done.outcome ≡ Sent names 0 false → IfOk result (λ told. told.outcome ≡ Sent names (length (packets_at links.new d e)) (is_some (lost_by_put (packets_at links.old d e))))) }
+    ensures events { IfOk result (λ told. told.events ≡ done.events) }
+    ensures changed { ForSome packet (λ bytes. (ms : List Message) (m : Message) → AreSpelled (length links.old) (packets_at links.old d e) ms → SpellsMessage (length links.old) bytes m → IfOk result (λ told. TellsApart told.changed ms (put_last ms m))) }
 {
     let Some(packet) = packet else {
-        return done;
+        return Ok(done);
     };
-    let put = put(links, d, e, packet);
-    in_link(done, packets_in(links, d, e), put.lost, put.changed)
+    let put = put(links, d, e, packet)?;
+    Ok(in_link(done, packets_in(links, d, e), put.lost, put.changed))
 }
 
 // What is answered to a send once its packet is in the link.
@@ -102,11 +106,12 @@ pub(crate) fn copy_packet(
     e: DcId,
     k: u32,
 ) -> Result<TurnDone, NoMemory>
-    requires { AreThere d e links.old }
+    requires there { AreThere d e links.old }
+    requires few { length links.old ≤ DATACENTRES }
     ensures links { OnOk result (links.new ≡ with_packets links.old d e (copied (packets_at links.old d e) k)) }
     ensures outcome { IfOk result (λ done. done.outcome ≡ copy_outcome (packets_at links.old d e) k (length (packets_at links.new d e))) }
     ensures events { IfOk result (λ done. done.events ≡ []) }
-    ensures changed { IfOk result (λ done. TellsApart done.changed (packets_at links.old d e) (copied (packets_at links.old d e) k)) }
+    ensures changed { (ms : List Message) → AreSpelled (length links.old) (packets_at links.old d e) ms → IfOk result (λ done. TellsApart done.changed ms (copied ms k)) }
 {
     let alloc = links.alloc();
     let CopyDone { answer, changed } = copy(links, d, e, k)?;

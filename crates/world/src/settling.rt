@@ -5,12 +5,12 @@ ghost use Rattle.abstract_log.specs.Runs.{IsFinished, IsRun, world_of};
 ghost use Rattle.abstract_log.specs.Turns.{AreTwo, IsStep};
 ghost use Rattle.stage_world.specs.Settling.{IsSettling, all_marks, all_rounds, answering_rounds, errand_turns, exchange_turns, is_answering, is_unfinished, rounds, sent_and_delivered, telling_rounds};
 ghost use Rattle.world.specs.Settled.{AreAnswered, AreCalm, HasLooped, Plays};
-ghost use Rattle.world.specs.Taking.{IsTaken};
+ghost use Rattle.world.specs.Taking.{HaveTakenTurns};
 
 use crate::exchanges::{Errand, errands};
 use crate::packets::packets_in;
 use crate::rounds::marks;
-use crate::settling_state::{all_of, answering, is_answering, is_due, is_unfinished, rounds};
+use crate::settling_state::{all_of, answering, has_errand, is_answering, is_unfinished, rounds};
 use crate::stages::Stages;
 use abstract_log::Step;
 use cz_base::{DcId, NoMemory};
@@ -47,7 +47,7 @@ impl Stages {
 
     // All turns of settling.
     fn play_all(&mut self) -> Result<(), NoMemory>
-        requires { IsTaken self.old }
+        requires { HaveTakenTurns self.old }
         ensures { OnOk result (Plays IsSettling self.old self.new) }
     {
         self.play_marks()?;
@@ -58,7 +58,7 @@ impl Stages {
 
     // The marks of each datacentre, after which no announcement is on.
     fn play_marks(&mut self) -> Result<(), NoMemory>
-        requires { IsTaken self.old }
+        requires { HaveTakenTurns self.old }
         ensures turns { OnOk result (Plays (λ load z steps. steps ≡ all_marks z) self.old self.new) }
         ensures calm { OnOk result (AreCalm self.new.workload self.new.network.datacentres) }
     {
@@ -69,7 +69,7 @@ impl Stages {
 
     // Local rounds where a command is not answered, until all are.
     fn play_until_answered(&mut self) -> Result<(), NoMemory>
-        requires taken { IsTaken self.old }
+        requires taken { HaveTakenTurns self.old }
         requires calm { AreCalm self.old.workload self.old.network.datacentres }
         ensures turns { OnOk result (Plays (HasLooped is_answering answering_rounds) self.old self.new) }
         ensures answered { OnOk result (AreAnswered self.new.network.datacentres) }
@@ -84,7 +84,7 @@ impl Stages {
 
     // Local rounds and exchanges until every log has every record.
     fn play_until_told(&mut self) -> Result<(), NoMemory>
-        requires taken { IsTaken self.old }
+        requires taken { HaveTakenTurns self.old }
         requires calm { AreCalm self.old.workload self.old.network.datacentres }
         requires answered { AreAnswered self.old.network.datacentres }
         ensures { OnOk result (Plays (HasLooped is_unfinished telling_rounds) self.old self.new) }
@@ -98,7 +98,7 @@ impl Stages {
 
     // A local round of each datacentre, then an exchange.
     fn play_and_tell(&mut self) -> Result<(), NoMemory>
-        requires { IsTaken self.old }
+        requires { HaveTakenTurns self.old }
         ensures { OnOk result (Plays (λ load z steps. steps ≡ telling_rounds load z) self.old self.new) }
     {
         self.play_everywhere()?;
@@ -107,7 +107,7 @@ impl Stages {
 
     // A local round of each datacentre.
     fn play_everywhere(&mut self) -> Result<(), NoMemory>
-        requires { IsTaken self.old }
+        requires { HaveTakenTurns self.old }
         ensures { OnOk result (Plays (λ load z steps. steps ≡ all_rounds z) self.old self.new) }
     {
         let ds = all_of(self.events.alloc(), self.workload.dcs)?;
@@ -116,7 +116,7 @@ impl Stages {
 
     // A local round of each datacentre with a command that is not answered.
     fn play_where_waiting(&mut self) -> Result<(), NoMemory>
-        requires { IsTaken self.old }
+        requires { HaveTakenTurns self.old }
         ensures { OnOk result (Plays (λ load z steps. steps ≡ answering_rounds load z) self.old self.new) }
     {
         let ds = answering(
@@ -129,7 +129,7 @@ impl Stages {
 
     // Local rounds of these datacentres.
     fn play_rounds(&mut self, ds: &[DcId]) -> Result<(), NoMemory>
-        requires taken { IsTaken self.old }
+        requires taken { HaveTakenTurns self.old }
         requires there { All (λ d. d < self.old.workload.dcs) ds.now }
         ensures { OnOk result (Plays (λ load z steps. steps ≡ rounds z ds.now) self.old self.new) }
     {
@@ -139,7 +139,7 @@ impl Stages {
 
     // Takes these turns of settling.
     fn play(&mut self, steps: &[Step]) -> Result<(), NoMemory>
-        requires taken { IsTaken self.old }
+        requires taken { HaveTakenTurns self.old }
         requires may { All (IsStep self.old.workload) steps.now }
         ensures { OnOk result (Plays (λ load z played. played ≡ steps.now) self.old self.new) }
     {
@@ -151,7 +151,7 @@ impl Stages {
 
     // Each datacentre sends to each other.
     fn exchange(&mut self) -> Result<(), NoMemory>
-        requires { IsTaken self.old }
+        requires { HaveTakenTurns self.old }
         ensures { OnOk result (Plays (λ load z steps. steps ≡ exchange_turns load z) self.old self.new) }
     {
         let them = errands(
@@ -167,11 +167,11 @@ impl Stages {
 
     // Does an errand, where it is due.
     fn run(&mut self, errand: &Errand) -> Result<(), NoMemory>
-        requires taken { IsTaken self.old }
+        requires taken { HaveTakenTurns self.old }
         requires two { AreTwo self.old.workload.dcs errand.now.from errand.now.to }
         ensures { OnOk result (Plays (λ load z steps. steps ≡ errand_turns load z errand.now) self.old self.new) }
     {
-        if !is_due(&self.network.datacentres, errand) {
+        if !has_errand(&self.network.datacentres, errand) {
             return Ok(());
         }
         self.send_and_deliver(errand)
@@ -179,7 +179,7 @@ impl Stages {
 
     // The sender sends, and the newest packet of the link is delivered.
     fn send_and_deliver(&mut self, errand: &Errand) -> Result<(), NoMemory>
-        requires taken { IsTaken self.old }
+        requires taken { HaveTakenTurns self.old }
         requires two { AreTwo self.old.workload.dcs errand.now.from errand.now.to }
         ensures { OnOk result (Plays (λ load z steps. steps ≡ sent_and_delivered load z errand.now) self.old self.new) }
     {

@@ -4,7 +4,7 @@ ghost use Rattle.cz_base.specs.declared.limits.TheConstants.{DATACENTRES};
 ghost use Rattle.std.specs.List.{All, list_all};
 ghost use Rattle.std.specs.Option.{ForSome};
 ghost use Rattle.stage_world.specs.MoreTurns.{message_of, same_counts};
-ghost use Rattle.stage_world.specs.Settling.{below, has_unanswered, is_agreed, is_answering, is_due, is_unfinished, rounds};
+ghost use Rattle.stage_world.specs.Settling.{below, has_unanswered, is_agreed, is_answering, has_errand, is_unfinished, rounds};
 ghost use Rattle.stage_world.specs.Stages.{Stages as StageWorld, sizes_of};
 ghost use Rattle.stage_world.specs.Whole.{datacentre_at};
 ghost use Rattle.world.specs.Settled.{AreKnown};
@@ -94,11 +94,11 @@ fn has_more(datacentres: &Seq<Datacentre>, errand: &Errand) -> bool
 }
 
 /// Whether the sender is to send: the first always does, a further one where its message would hold a record.
-pub(crate) fn is_due(datacentres: &Seq<Datacentre>, errand: &Errand) -> bool
+pub(crate) fn has_errand(datacentres: &Seq<Datacentre>, errand: &Errand) -> bool
     requires known { (z : StageWorld) × AreKnown z datacentres.now }
     requires from { errand.now.from < length datacentres.now }
     requires to { errand.now.to < length datacentres.now }
-    ensures { (z : StageWorld) → AreKnown z datacentres.now → result ≡ is_due z errand.now }
+    ensures { (z : StageWorld) → AreKnown z datacentres.now → result ≡ has_errand z errand.now }
 {
     errand.sender == 0 || has_more(datacentres, errand)
 }

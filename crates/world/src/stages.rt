@@ -39,17 +39,17 @@ pub struct Stages {
 
 impl Model for Stages {
     ghost use Rattle.std.specs.Prelude.{◌≡◌, false};
-    ghost use Rattle.world.specs.Taking.{IsTaken, StagesState};
+    ghost use Rattle.world.specs.Taking.{HaveTakenTurns, StagesState};
 
     ghost Value = { StagesState };
 
     ghost view = { λ s. record { workload = s.workload; network = s.network; events = s.events; lines = s.lines; failed = s.failed } };
 
-    ghost invariant = { λ s. s.failed ≡ false → IsTaken (record { workload = s.workload; network = s.network; events = s.events; lines = s.lines; failed = s.failed }) };
+    ghost invariant = { λ s. s.failed ≡ false → HaveTakenTurns (record { workload = s.workload; network = s.network; events = s.events; lines = s.lines; failed = s.failed }) };
 }
 
 impl Stages {
-    ghost use Rattle.world.specs.Taking.{HasTaken, IsPlayed, Taken};
+    ghost use Rattle.world.specs.Taking.{HasTaken, IsPlayed, TakenTurn};
 
     /// The stages as a script opens them. Its steps are not taken yet.
     pub fn start(alloc: Global, script: &Script) -> Result<Self, NoMemory>
@@ -69,7 +69,7 @@ impl Stages {
     pub fn turn(&mut self, step: &Step) -> Result<(), NoMemory>
         requires step { IsStep self.old.workload step.now }
         // Whatever turns were taken, they are now one more.
-        ensures taken { (script : ScriptValue) (ts : List Taken) → HasTaken script ts self.old → OnOk result (HasTaken script (ts ++ record { step = step.now; settling = false } ∷ []) self.new) }
+        ensures taken { (script : ScriptValue) (ts : List TakenTurn) → HasTaken script ts self.old → OnOk result (HasTaken script (ts ++ record { step = step.now; settling = false } ∷ []) self.new) }
 
         // What is written is a run on the workload.
         ensures run { OnOk result (IsRun self.new.workload self.new.events) }
@@ -83,7 +83,7 @@ impl Stages {
     // Takes one turn, and writes its line and its events; an idle turn of settling has no line.
     pub(crate) fn take(&mut self, step: &Step, settling: bool) -> Result<(), NoMemory>
         requires step { IsStep self.old.workload step.now }
-        ensures taken { (script : ScriptValue) (ts : List Taken) → HasTaken script ts self.old → OnOk result (HasTaken script (ts ++ record { step = step.now; settling = settling } ∷ []) self.new) }
+        ensures taken { (script : ScriptValue) (ts : List TakenTurn) → HasTaken script ts self.old → OnOk result (HasTaken script (ts ++ record { step = step.now; settling = settling } ∷ []) self.new) }
         ensures run { OnOk result (IsRun self.new.workload self.new.events) }
         ensures workload { self.new.workload ≡ self.old.workload }
         ensures failed { OnErr result (self.new.failed ≡ true) }
@@ -102,7 +102,7 @@ impl Stages {
 
     /// What was written, the run and a line for each turn; and what the run leaves, which is moved out of the stages.
     pub fn finish(self) -> Result<Played, NoMemory>
-        ensures { (script : ScriptValue) (ts : List Taken) → HasTaken script ts self → IfOk result (IsPlayed script ts) }
+        ensures { (script : ScriptValue) (ts : List TakenTurn) → HasTaken script ts self → IfOk result (IsPlayed script ts) }
     {
         let Stages {
             workload,

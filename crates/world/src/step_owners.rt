@@ -1,6 +1,6 @@
 //! Where a step is taken.
 ghost use Rattle.std.specs.Prelude.{◌≡◌};
-ghost use Rattle.abstract_log.specs.Turns.{IsStep, place_of_step};
+ghost use Rattle.abstract_log.specs.Turns.{IsStep, datacentre_of_step};
 ghost use Rattle.world.specs.Showing.{uses_link};
 
 use abstract_log::{Step, Workload};
@@ -9,7 +9,7 @@ use cz_base::DcId;
 /// The datacentre whose stage takes the turn.
 pub(crate) fn place_of(workload: &Workload, step: &Step) -> DcId
     requires { IsStep workload.now step.now }
-    ensures { result ≡ place_of_step workload.now step.now }
+    ensures { result ≡ datacentre_of_step workload.now step.now }
 {
     match *step {
         Step::Client { s } => workload.sessions.as_slice()[s as usize].home,
@@ -39,6 +39,7 @@ pub(crate) fn place_of(workload: &Workload, step: &Step) -> DcId
         Step::AddQueue { d } => d,
         Step::AddSender { d } => d,
         Step::AddReceiver { d } => d,
+        Step::Upgrade { d } => d,
     }
 }
 
@@ -74,5 +75,6 @@ pub(crate) fn uses_link(step: &Step) -> bool
         Step::AddQueue { d: _ } => false,
         Step::AddSender { d: _ } => false,
         Step::AddReceiver { d: _ } => false,
+        Step::Upgrade { d: _ } => false,
     }
 }

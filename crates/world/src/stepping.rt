@@ -63,7 +63,7 @@ impl Network {
         ensures told { (z : StageWorld) → MayStep _workload.now (Send d k e) z self.old → IfOk result (λ done. TellsIdle _workload.now z (Send d k e) done.changed) }
     {
         let (done, packet) = send(&mut self.datacentres, d, k, e)?;
-        Ok(put_sent(&mut self.links, d, e, done, packet))
+        put_sent(&mut self.links, d, e, done, packet)
     }
 
     // Packet k of the link from d comes to receiver r of e.

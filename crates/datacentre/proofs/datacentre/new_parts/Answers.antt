@@ -1,4 +1,4 @@
-use Rattle.std.proofs.Common.{refl}
+use Rattle.std.proofs.Common.{false, refl}
 use Rattle.datacentre.proofs.NewLemmas.{all_commands}
 use Rattle.datacentre.proofs.OpenedLemmas.{new_seen, new_whole}
 use Rattle.datacentre.proofs.datacentre.new_parts.Goals as goal
@@ -22,6 +22,7 @@ returns-clause-stages c =
       indexers = c.in_ok-new_indexers.field-0;
       senders = c.in_ok-new_senders.field-0;
       receivers = c.args.sizes.now.receivers;
+      upgraded = false;
       table = c.new-2.result;
       learnt = 0;
       floor = c.new-3.result;
@@ -41,6 +42,7 @@ returns-clause-stages c =
       indexers = c.in_ok-new_indexers.ensures;
       senders = c.in_ok-new_senders.ensures;
       receivers = refl;
+      form = refl;
       table = c.new-2.ensures;
       learnt = refl;
       floor = c.new-3.ensures;
@@ -63,6 +65,7 @@ returns-clause-whole c =
       indexers = c.in_ok-new_indexers.field-0;
       senders = c.in_ok-new_senders.field-0;
       receivers = c.args.sizes.now.receivers;
+      upgraded = false;
       table = c.new-2.result;
       learnt = 0;
       floor = c.new-3.result;
@@ -82,6 +85,7 @@ returns-clause-whole c =
       indexers = c.in_ok-new_indexers.ensures;
       senders = c.in_ok-new_senders.ensures;
       receivers = refl;
+      form = refl;
       table = c.new-2.ensures;
       learnt = refl;
       floor = c.new-3.ensures;

@@ -5,6 +5,6 @@ use Rattle.record_codec.proofs.message.write_message.Goals as goal
 pub returns-clause-ok : goal.returns-clause-ok
 returns-clause-ok c =
     on_ok_weaker c.write_records.result
-    (message_written _ _ _ _ _ _ _ _ _ _ _ _ c.dcs-dcs.ensures.value c.number-2.ensures.value
+    (message_written _ _ _ _ _ _ _ _ _ _ _ _ _ _ _ c.form_byte.ensures.value c.dcs-dcs.ensures.value c.number-2.ensures.value
     c.in_ok-number.ensures c.in_ok-number-2.ensures c.in_ok-number-3.ensures c.in_ok-table.ensures)
     c.write_records.ensures.ok

@@ -1,7 +1,7 @@
 use Rattle.std.proofs.Common.{◌≡◌, ◌<◌, ◌∙◌, ◌++◌, map, Some, ap, arith, length, subst, sym}
 use Rattle.std.specs.Option.{ForSome}
 use Rattle.causal_deps.specs.declared.record.Item.TheVariants.{External}
-use Rattle.toid_filter.specs.declared.filter.Mark.{Mark}
+use Rattle.toid_filter.specs.declared.filter.AcceptedMark.{AcceptedMark}
 use Rattle.toid_filter.specs.Champions.{grown}
 use Rattle.toid_filter.specs.Filters.{FilterState, activated, handed_out}
 use Rattle.stage_turns.proofs.MarkingLemmas.{all_handed, mix_all, mix_length, mix_lent, mix_next, more_handed}
@@ -12,7 +12,7 @@ item_mut-requires c = omega (arith, c.loop-at-test.true, c.len-at-end.ensures, a
 
 pub activate_one-requires-clause-grown : goal.activate_one-requires-clause-grown
 activate_one-requires-clause-grown c =
-    subst (λ (f : FilterState). (mark : Mark) × (f.accepted ≡ Some mark) × (c.in_ok-copy.field-0 ≡ grown f.map mark.host mark.from)) (sym (mix_lent (activated c.args.grown.now) c.args.filters.now c.loop-at.filters c.loop-at.at c.item_mut.result.now c.loop-at.invariant.filters (omega (arith, c.loop-at-test.true, c.len-at-end.ensures)) c.item_mut.ensures.value))
+    subst (λ (f : FilterState). (mark : AcceptedMark) × (f.accepted ≡ Some mark) × (c.in_ok-copy.field-0 ≡ grown f.map mark.host mark.from)) (sym (mix_lent (activated c.args.grown.now) c.args.filters.now c.loop-at.filters c.loop-at.at c.item_mut.result.now c.loop-at.invariant.filters (omega (arith, c.loop-at-test.true, c.len-at-end.ensures)) c.item_mut.ensures.value))
     (let waits = (c.requires c.loop-at.at c.item_mut.result.now (omega (arith, c.loop-at-test.true, c.len-at-end.ensures))).0 in (waits.0, waits.1, c.in_ok-copy.ensures ∙ waits.2))
 
 pub activate_one-requires-clause-host : goal.activate_one-requires-clause-host

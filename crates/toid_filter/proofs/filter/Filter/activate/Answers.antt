@@ -2,7 +2,7 @@ use Rattle.std.proofs.Common.{◌≤◌, arith, ap, length, refl, subst, ◌∙�
 use Rattle.std.proofs.lemmas.List.Elements.{All-weaker}
 use Rattle.causal_deps.specs.declared.record.Record.{Record}
 use Rattle.toid_filter.specs.contracts.filter.Filter.{the_view}
-use Rattle.toid_filter.specs.Filters.{Fits, IsSound, activated, is_own}
+use Rattle.toid_filter.specs.Filters.{FitsFilter, IsSound, activated, is_own}
 use Rattle.toid_filter.proofs.FilterLemmas.{steady_out, steady_sound}
 use Rattle.toid_filter.proofs.Losing.{few_filtered}
 use Rattle.toid_filter.proofs.Releasing.{code_fewer, code_fits, code_free, code_hosts, code_new, code_passes, code_steady, few_from, grown_at, remapped, remapped_only, remapped_released, remapped_tidy, still_released, still_steady}
@@ -16,7 +16,7 @@ pub returns-in_err-lost-clause-sound : goal.returns-in_err-lost-clause-sound
 returns-in_err-lost-clause-sound c = steady_sound _ (steady_out _ _ c.self.invariant)
 
 pub take_lost-requires-clause-numbers : goal.take_lost-requires-clause-numbers
-take_lost-requires-clause-numbers c = All-weaker (Fits (the_view c.self.inside)) (λ (r : Record). 1 ≤ r.toid) (λ r was. was.first) c.self.inside.held c.self.invariant.tidy.fits
+take_lost-requires-clause-numbers c = All-weaker (FitsFilter (the_view c.self.inside)) (λ (r : Record). 1 ≤ r.toid) (λ r was. was.first) c.self.inside.held c.self.invariant.tidy.fits
 
 pub invariant_of-self-in-Some-next : goal.invariant_of-self-in-Some-next
 invariant_of-self-in-Some-next c = code_steady (remapped (the_view c.self.inside) c.in-Some.mark c.self.invariant c.in-Some.is c.args.map (grown_at (the_view c.self.inside) c.args.self.now c.in-Some.mark c.requires.grown.0 c.args.map c.self.view_is c.in-Some.is c.requires.grown.1 c.requires.grown.2) c.take_lost.new.held c.take_lost.ensures.kept) c.in-Some.mark.host (remapped_tidy (the_view c.self.inside) c.in-Some.mark c.self.invariant c.in-Some.is c.args.map (grown_at (the_view c.self.inside) c.args.self.now c.in-Some.mark c.requires.grown.0 c.args.map c.self.view_is c.in-Some.is c.requires.grown.1 c.requires.grown.2) c.take_lost.new.held c.take_lost.ensures.kept) refl (remapped_only (the_view c.self.inside) c.in-Some.mark c.self.invariant c.in-Some.is c.args.map (grown_at (the_view c.self.inside) c.args.self.now c.in-Some.mark c.requires.grown.0 c.args.map c.self.view_is c.in-Some.is c.requires.grown.1 c.requires.grown.2) c.take_lost.new.held c.take_lost.ensures.kept) c.in-Some-next.rec c.get-first.result c.get-first.ensures (c.take_next-next.ensures.some _ c.in-Some-next.is) c.take_next-next.new.held c.reserve.new.self.items (c.take_next-next.ensures.taken _ c.in-Some-next.is) c.reserve.ensures.items

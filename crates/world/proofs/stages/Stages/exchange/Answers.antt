@@ -1,17 +1,17 @@
 use Rattle.std.proofs.Common.{◌∙◌, sym, subst, arith}
-use Rattle.world.specs.Taking.{HasTaken, IsTaken}
+use Rattle.world.specs.Taking.{HasTaken, HaveTakenTurns}
 use Rattle.world.proofs.KnownLemmas.{count_there, few_dcs, known_of, known_some}
 use Rattle.world.proofs.SettledLemmas.{errand_two, errands_all, errands_next, plays_none, still_taken}
 use Rattle.world.proofs.stages.Stages.exchange.Goals as goal
 
 pub errands-requires-clause-known : goal.errands-requires-clause-known
-errands-requires-clause-known c = known_some _ (subst IsTaken (sym c.self.view_is) c.requires)
+errands-requires-clause-known c = known_some _ (subst HaveTakenTurns (sym c.self.view_is) c.requires)
 
 pub errands-requires-clause-few : goal.errands-requires-clause-few
-errands-requires-clause-few c = few_dcs _ (subst IsTaken (sym c.self.view_is) c.requires)
+errands-requires-clause-few c = few_dcs _ (subst HaveTakenTurns (sym c.self.view_is) c.requires)
 
 pub errands-requires-clause-all : goal.errands-requires-clause-all
-errands-requires-clause-all c = sym (count_there _ (subst IsTaken (sym c.self.view_is) c.requires))
+errands-requires-clause-all c = sym (count_there _ (subst HaveTakenTurns (sym c.self.view_is) c.requires))
 
 pub loop-errand-init : goal.loop-errand-init
 loop-errand-init c = plays_none _
