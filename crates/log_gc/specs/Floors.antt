@@ -62,6 +62,6 @@ unless_put Append is_replaced = true
 unless_put Put is_replaced = is_replaced
 unless_put Del is_replaced = true
 
-abbrev pub is_collectable : ℕ → List (List ℕ) → ℕ → Record → Option ℕ → Bool
-is_collectable floor table lid rec newer =
+abbrev pub may_be_let_go : ℕ → List (List ℕ) → ℕ → Record → Option ℕ → Bool
+may_be_let_go floor table lid rec newer =
     nat_le lid floor && (is_known_everywhere table rec.host rec.toid && unless_put rec.kind (replaced floor lid newer))

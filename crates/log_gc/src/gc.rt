@@ -2,7 +2,7 @@
 
 ghost use Rattle.std.specs.Prelude.{◌≡◌, ℕ, ◌<◌, ◌≤◌, ◌↔◌, length, IsSome, IsTrue, None, Some};
 ghost use Rattle.causal_deps.specs.declared.answers.Pin.{Pin};
-ghost use Rattle.log_gc.specs.Floors.{MayBeLetGo, fresh, is_collectable, lowest, pin_of, pinned, raised, replaced, unpinned};
+ghost use Rattle.log_gc.specs.Floors.{MayBeLetGo, fresh, may_be_let_go, lowest, pin_of, pinned, raised, replaced, unpinned};
 ghost use Rattle.cz_base.specs.declared.limits.TheConstants.{SESSIONS};
 
 use awareness_table::Aware;
@@ -91,7 +91,7 @@ impl Gc {
     pub fn may_collect(&self, lid: Lid, rec: &Record, aware: &Aware, newer: Option<Lid>) -> bool
         requires { rec.now.host < length aware.now.table }
         ensures exact { IsTrue result ↔ MayBeLetGo self.now.floor aware.now.table lid rec.now newer }
-        ensures test { result ≡ is_collectable self.now.floor aware.now.table lid rec.now newer }
+        ensures test { result ≡ may_be_let_go self.now.floor aware.now.table lid rec.now newer }
     {
         lid <= self.floor
             && aware.known_everywhere(rec.host, rec.toid)

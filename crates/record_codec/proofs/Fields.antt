@@ -15,7 +15,7 @@ use Rattle.record_codec.specs.Wire.{name_bytes, names_bytes, body_bytes, counts_
 use Rattle.record_codec.proofs.Numbers.{number_code}
 use Rattle.record_codec.proofs.Texts.{none_bad, text_code}
 use Rattle.record_codec.proofs.Several.{sized_code, each_made, each_code, each_length, each_push}
-use Rattle.record_codec.proofs.Places.{fails_same, fails_size, fails_items, fails_each, Took-push, Took-trans}
+use Rattle.record_codec.proofs.Places.{fails_same, fails_size, fails_items, fails_each, ReadPast-push, ReadPast-trans}
 
 -- ---- texts behind their length
 
@@ -187,7 +187,7 @@ pub names_more : (n : ℕ) (names new : List (List ℕ)) (name : List ℕ) {p q 
     → ReadPast p q (flat_map name_bytes names) → ReadPast q r (name_bytes name) → AreNames (n + 1) new × ReadPast p r (flat_map name_bytes new)
 names_more n names new name {p} {q} {r} is each is_name before now =
     let P : List (List ℕ) → Type 0 = λ xs. AreNames (n + 1) xs × ReadPast p r (flat_map name_bytes xs) in
-    subst P (sym is) (each_push (λ (_ : ℕ). IsName) 0 n names name each is_name, Took-push name_bytes names name before now)
+    subst P (sym is) (each_push (λ (_ : ℕ). IsName) 0 n names name each is_name, ReadPast-push name_bytes names name before now)
 
 -- one more entry is written
 pub entries_more : (own : Option Entry) (i n low high : ℕ) (counts new : List ℕ) {p q r : ReaderState} → low ≡ least_entry own i → high ≡ greatest_entry own i
@@ -198,7 +198,7 @@ entries_more own i n low high counts new {p} {q} {r} is_low is_high inside is ea
     let e : take (i + 1) new ≡ take i counts ++ n ∷ [] = ap (λ (xs : List ℕ). take (i + 1) xs) is ∙ take_more_set counts i n inside in
     let entry : IsEntry own i n = record { within = record { least = omega (arith, within.least); greatest = omega (arith, within.greatest) } } in
     let P : List ℕ → Type 0 = λ xs. AreEntries own (i + 1) xs × ReadPast p r (counts_bytes xs) in
-    subst P (sym e) (each_push (IsEntry own) 0 i (take i counts) n each (subst (λ (j : ℕ). IsEntry own j n) {x = i} {y = 0 + i} (omega arith) entry), Took-push (big_bytes 8) (take i counts) n before now)
+    subst P (sym e) (each_push (IsEntry own) 0 i (take i counts) n each (subst (λ (j : ℕ). IsEntry own j n) {x = i} {y = 0 + i} (omega arith) entry), ReadPast-push (big_bytes 8) (take i counts) n before now)
 
 greater_zeros : (n : ℕ) (xs : List ℕ) → length xs ≡ n → greater (replicate n 0) xs ≡ xs
 greater_zeros zero xs e = refl
@@ -229,7 +229,7 @@ rows_more dcs i row table new {p} {q} {r} inside is zeros each is_row before now
         rows = ap length put ∙ length-set table i row ∙ zeros.rows;
         zeros = λ k from to. ap (λ (t : List (List ℕ)). row_of t k) put ∙ get_or-set_other table i k row [] (λ e. omega arith) ∙ zeros.zeros k (omega arith) to;
       },
-      subst P (sym e) (each_push (λ (_ : ℕ). AreEntries None dcs) 0 i (take i table) row each is_row, Took-push counts_bytes (take i table) row before now),
+      subst P (sym e) (each_push (λ (_ : ℕ). AreEntries None dcs) 0 i (take i table) row each is_row, ReadPast-push counts_bytes (take i table) row before now),
     )
 
 -- all entries are written
@@ -265,4 +265,4 @@ names_sized low high n names within each =
 pub names_took : (n : ℕ) (names : List (List ℕ)) {p q r : ReaderState} → AreNames n names → ReadPast p q (big_bytes 1 n) → ReadPast q r (flat_map name_bytes names) → ReadPast p r (names_bytes names)
 names_took n names {p} {q} {r} each before now =
     let P : ℕ → Type 0 = λ m. ReadPast p q (big_bytes 1 m) in
-    Took-trans (subst P (sym (names_size n names each)) before) now
+    ReadPast-trans (subst P (sym (names_size n names each)) before) now

@@ -19,7 +19,7 @@ use Rattle.record_codec.proofs.Composing.{Both_code}
 use Rattle.record_codec.proofs.Several.{each_at, each_code, each_length, each_made, each_of, each_push, sized_code}
 use Rattle.record_codec.proofs.Fields.{entries_size, rows_code, rows_made}
 use Rattle.record_codec.proofs.Records.{record_code, record_made}
-use Rattle.record_codec.proofs.Places.{fails_same, fails_first, fails_next, fails_size, fails_items, fails_each, Took-push, Took-trans}
+use Rattle.record_codec.proofs.Places.{fails_same, fails_first, fails_next, fails_size, fails_items, fails_each, ReadPast-push, ReadPast-trans}
 
 -- ---- records behind their number
 
@@ -56,7 +56,7 @@ pub records_more : (form : Form) (dcs host number n : ℕ) (records new : List R
 records_more form dcs host number n records new r {p} {q} {s} same is each is_r before now =
     let P : List Record → Type 0 = λ xs. AreRecords form dcs host (n + 1) xs × ReadPast p s (flat_map (record_bytes form dcs) xs) in
     let Q : ℕ → Type 0 = λ k. IsRecord form dcs k k r in
-    subst P (sym is) (each_push (λ (_ : ℕ). IsRecord form dcs host host) 0 n records r each (subst Q same is_r), Took-push (record_bytes form dcs) records r before now)
+    subst P (sym is) (each_push (λ (_ : ℕ). IsRecord form dcs host host) 0 n records r each (subst Q same is_r), ReadPast-push (record_bytes form dcs) records r before now)
 
 pub records_sized : (form : Form) (dcs host n : ℕ) (records : List Record) → IsBetween 0 16 n → AreRecords form dcs host n records → IsSized 0 16 length (AreRecords form dcs host) records
 records_sized form dcs host n records within each =
@@ -68,7 +68,7 @@ pub records_took : (form : Form) (dcs host n : ℕ) (records : List Record) {p q
     → ReadPast p r (records_bytes form dcs records)
 records_took form dcs host n records {p} {q} {r} each before now =
     let P : ℕ → Type 0 = λ m. ReadPast p q (big_bytes 1 m) in
-    Took-trans (subst P (sym (records_size form dcs host n records each)) before) now
+    ReadPast-trans (subst P (sym (records_size form dcs host n records each)) before) now
 
 records_code : (form : Form) (dcs host : ℕ) → dcs ≤ 8 → host < dcs → IsCode (IsSized 0 16 length (AreRecords form dcs host)) (records_bytes form dcs)
 records_code form dcs host small fits =
@@ -293,7 +293,7 @@ pub content_took : (form : Form) (dcs d : ℕ) (m : Message) {p q r s t : Reader
 content_took form dcs d m {p} {q} {r} took_from is_dcs took_dcs took_table took_records =
     let Q : ℕ → Type 0 = λ k. ReadPast q r (big_bytes 1 k) in
     let same : d ≡ dcs = omega (arith, is_dcs.least, is_dcs.greatest) in
-    Took-trans took_from (Took-trans (subst Q same took_dcs) (Took-trans took_table took_records))
+    ReadPast-trans took_from (ReadPast-trans (subst Q same took_dcs) (ReadPast-trans took_table took_records))
 
 pub content_code : (form : Form) (dcs : ℕ) → dcs ≤ 8 → IsCode (IsMessage form dcs) (content_bytes form dcs)
 content_code form dcs small =

@@ -12,20 +12,20 @@ use Rattle.record_codec.specs.Reading.{ReaderState, ReadPast, FailsAt}
 use Rattle.record_codec.proofs.Composing.{Misses-same, first_missed, next_missed}
 use Rattle.record_codec.proofs.Several.{size_missed, items_missed, each_missed}
 
-pub Took_none : (p : ReaderState) → ReadPast p p []
-Took_none p = record { bytes = refl; at = omega arith }
+pub ReadPast-none : (p : ReaderState) → ReadPast p p []
+ReadPast-none p = record { bytes = refl; at = omega arith }
 
-pub Took-trans : {p q r : ReaderState} {xs ys : List ℕ} → ReadPast p q xs → ReadPast q r ys → ReadPast p r (xs ++ ys)
-Took-trans {p} {q} {r} {xs} {ys} a b = record {
+pub ReadPast-trans : {p q r : ReaderState} {xs ys : List ℕ} → ReadPast p q xs → ReadPast q r ys → ReadPast p r (xs ++ ys)
+ReadPast-trans {p} {q} {r} {xs} {ys} a b = record {
   bytes = a.bytes ∙ ap (λ (zs : List ℕ). xs ++ zs) b.bytes ∙ sym (append_assoc xs ys r.left);
   at = omega (arith, a.at, b.at, length-append xs ys);
 }
 
 -- one more value
-pub Took-push : {X : Type 0} (s : X → List ℕ) {p q r : ReaderState} (xs : List X) (x : X) → ReadPast p q (flat_map s xs) → ReadPast q r (s x) → ReadPast p r (flat_map s (xs ++ x ∷ []))
-Took-push s {p} {q} {r} xs x a b =
+pub ReadPast-push : {X : Type 0} (s : X → List ℕ) {p q r : ReaderState} (xs : List X) (x : X) → ReadPast p q (flat_map s xs) → ReadPast q r (s x) → ReadPast p r (flat_map s (xs ++ x ∷ []))
+ReadPast-push s {p} {q} {r} xs x a b =
     let P : List ℕ → Type 0 = λ w. ReadPast p r w in
-    subst P (flat_map_more s [] xs x) (Took-trans a b)
+    subst P (flat_map_more s [] xs x) (ReadPast-trans a b)
 
 pub fails_same : {W V : List ℕ → Type 0} (p : ReaderState) → ((w : List ℕ) → W w → V w) → ((w : List ℕ) → V w → W w) → (f : DecodeFault) → FailsAt W p f → FailsAt V p f
 fails_same p there back (Malformed at) h = record { off = h.off; misses = Misses-same there back h.misses; is = h.is }

@@ -18,7 +18,7 @@ use Rattle.record_codec.proofs.Composing.{Both_code}
 use Rattle.record_codec.proofs.Several.{each_at, each_length, each_of}
 use Rattle.record_codec.proofs.Fields.{body_code, entries_code, entries_made, entry_of_own, least_le_greatest, names_code, names_made, own_entry}
 use Rattle.record_codec.proofs.Heads.{head_code, head_made}
-use Rattle.record_codec.proofs.Places.{fails_same, fails_first, fails_next, Took-trans}
+use Rattle.record_codec.proofs.Places.{fails_same, fails_first, fails_next, ReadPast-trans}
 use Rattle.record_codec.proofs.Told.{sparse_code}
 
 -- ---- the entries of a record's dependencies
@@ -256,7 +256,7 @@ pub record_took : (form : Form) (dcs own : ℕ) (r : Record) {p q s t u : Reader
     → ReadPast s t (names_bytes r.tags) → ReadPast t u (body_bytes r.body) → ReadPast p u (record_bytes form dcs r)
 record_took form dcs own r {p} {q} {s} host took took_dep took_tags took_body =
     let P : ℕ → Type 0 = λ n. ReadPast q s (dep_bytes form n r.dep) in
-    Took-trans took (Took-trans (subst P host took_dep) (Took-trans took_tags took_body))
+    ReadPast-trans took (ReadPast-trans (subst P host took_dep) (ReadPast-trans took_tags took_body))
 
 pub record_code : (form : Form) (dcs low high : ℕ) → dcs ≤ 8 → high < dcs → IsCode (IsRecord form dcs low high) (record_bytes form dcs)
 record_code form dcs low high small fits =

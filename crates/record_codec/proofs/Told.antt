@@ -12,7 +12,7 @@ use Rattle.record_codec.specs.Reading.{ReaderState, ReadPast, FailsAt}
 use Rattle.record_codec.specs.Wire.{entry_bytes, sparse_bytes, told_entries}
 use Rattle.record_codec.proofs.Several.{each_length, each_of, sized_code}
 use Rattle.record_codec.proofs.Fields.{entry_of_own, least_le_greatest, own_entry}
-use Rattle.record_codec.proofs.Places.{fails_same, fails_size, fails_items, Took_none, Took-push, Took-trans}
+use Rattle.record_codec.proofs.Places.{fails_same, fails_size, fails_items, ReadPast-none, ReadPast-push, ReadPast-trans}
 use Rattle.record_codec.proofs.Rising.{AreRising, HasRoom, Lead, lead_all, lead_push, lead_room, other_made, other_within, rising_apart, rising_fails, rising_higher, rising_length, rising_lower, rising_made}
 
 -- ---- which entries are told
@@ -271,7 +271,7 @@ told_each_fails own dcs {p} inside small within took f h =
 pub sparse_took : (own : Entry) (dcs n : ℕ) (dep : List ℕ) {p q r : ReaderState} → AreTold own dcs n dep → ReadPast p q (big_bytes 1 n) → ReadPast q r (told_bytes own.host dep) → ReadPast p r (sparse_bytes own.host dep)
 sparse_took own dcs n dep {p} {q} told before now =
     let P : ℕ → Type 0 = λ k. ReadPast p q (big_bytes 1 k) in
-    Took-trans (subst P (sym told.size) before) now
+    ReadPast-trans (subst P (sym told.size) before) now
 
 -- ---- entries are put in, one after the other
 
@@ -369,7 +369,7 @@ telling_start own dcs count dep p fits is =
       entries = alone_entries own dcs fits;
       clear = alone_clear own dcs;
       lead = subst L (sym none) (refl, omega arith);
-      took = subst T (sym none) (Took_none p);
+      took = subst T (sym none) (ReadPast-none p);
     })
 
 telling_lead : (own : Entry) (dcs count told next more : ℕ) (dep : List ℕ) {p q : ReaderState} → told < count → more ≡ count - 1 - told → IsTelling own dcs count told next dep p q
@@ -410,7 +410,7 @@ telling_more own dcs count told next more host dep new e {p} {q} {r} within is a
           (subst E {x = e.host} {y = 0 + e.host} (omega arith) (entry_of_own own e.host e.count (λ h. absurd (entry.host.other h)) (omega (arith, entry.count.greatest))));
       clear = record { zeros = λ k from to apart. get_or-set_other dep e.host k e.count 0 (λ h. omega (arith, h)) ∙ telling.clear.zeros k (omega (arith, entry.host.least)) (omega (arith, length-set dep e.host e.count)) apart };
       lead = subst N {x = more} {y = count - (told + 1)} (omega arith) (subst M {x = suc e.host} {y = e.host + 1} (omega arith) lead);
-      took = subst T (sym put_in) (Took-push entry_bytes (told_entries own.host 0 dep) e telling.took took);
+      took = subst T (sym put_in) (ReadPast-push entry_bytes (told_entries own.host 0 dep) e telling.took took);
     })
 
 -- the entry is inside

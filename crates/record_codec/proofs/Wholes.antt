@@ -17,7 +17,7 @@ use Rattle.record_codec.proofs.Shared.{shared-front}
 use Rattle.record_codec.proofs.Starts.{only_spelled, refused_of_miss, refused_of_more, refused_same}
 use Rattle.record_codec.proofs.Records.{record_code}
 use Rattle.record_codec.proofs.Messages.{IsFormed, content_next, form_first, formed_bytes, formed_code}
-use Rattle.record_codec.proofs.Places.{Took-trans}
+use Rattle.record_codec.proofs.Places.{ReadPast-trans}
 
 -- no word is a proper front of another
 code_law : {X : Type 0} (A : X → Type 0) (s : X → List ℕ) (x y : X) (more : List ℕ) → IsCode A s → A x → A y → s x ++ more ≡ s y → (x ≡ y) × (more ≡ [])
@@ -106,14 +106,14 @@ pub message_more : (dcs : ℕ) (form : Form) (bytes : List ℕ) (p q r : ReaderS
 message_more dcs form bytes p q r m some small start took_form is took f h =
     let P : ReaderState → Type 0 = λ z. ReadPast z r (formed_bytes dcs (form, m)) in
     refused_same bytes (text_of_message dcs) (message_of_text dcs) f
-    (refused_of_more (IsFormed dcs) (formed_bytes dcs) (form, m) bytes r (formed_code dcs small) (record { first = tt; second = is }) (subst P start (Took-trans took_form took)) f h)
+    (refused_of_more (IsFormed dcs) (formed_bytes dcs) (form, m) bytes r (formed_code dcs small) (record { first = tt; second = is }) (subst P start (ReadPast-trans took_form took)) f h)
 
 -- all was read, and nothing is left
 pub message_read : (dcs : ℕ) (form : Form) (bytes : List ℕ) (p q r : ReaderState) (m : Message) → p ≡ record { left = bytes; at = 0 } → ReadPast p q (form_bytes form)
     → IsMessage form dcs m → ReadPast q r (content_bytes form dcs m) → r.left ≡ [] → SpellsMessage dcs bytes m
 message_read dcs form bytes p q r m start took_form is took none =
     let P : ReaderState → Type 0 = λ z. ReadPast z r (formed_bytes dcs (form, m)) in
-    let all = subst P start (Took-trans took_form took) in
+    let all = subst P start (ReadPast-trans took_form took) in
     spells_of dcs bytes form m is (all.bytes ∙ ap (λ (w : List ℕ). formed_bytes dcs (form, m) ++ w) none ∙ append-nil (formed_bytes dcs (form, m)))
 
 -- two spellings of which one begins the other

@@ -73,9 +73,9 @@ not_missing records lid some none =
     some_is_not_none (record_placed (stocked_from 1 records) lid) some (at_place 1 records lid (lid - 1) (omega arith) ∙ sym none)
 
 -- the records of such a stock are the list's
-pub records_in-placed_from : (n : ℕ) (records : List Record) → records_in (stocked_from n records) ≡ records
-records_in-placed_from n [] = refl
-records_in-placed_from n (r ∷ rs) = ap (λ xs. r ∷ xs) (records_in-placed_from (suc n) rs)
+pub records_in-stocked_from : (n : ℕ) (records : List Record) → records_in (stocked_from n records) ≡ records
+records_in-stocked_from n [] = refl
+records_in-stocked_from n (r ∷ rs) = ap (λ xs. r ∷ xs) (records_in-stocked_from (suc n) rs)
 
 -- the first new record is looked for in what is left, where the first i are none
 module _ (d known lid : ℕ) where

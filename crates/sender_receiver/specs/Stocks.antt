@@ -41,6 +41,6 @@ abbrev pub stocked_from : ℕ → List Record → List Stocked
 stocked_from n [] = []
 stocked_from n (r ∷ rs) = record { lid = n; rec = r } ∷ stocked_from (suc n) rs
 
-pub placed_rise : (n low : ℕ) (records : List Record) → low < n → IsRisingFrom low (stocked_from n records)
-placed_rise n low [] past = tt
-placed_rise n low (r ∷ rs) past = (past, placed_rise (suc n) n rs (omega arith))
+pub stocked_rise : (n low : ℕ) (records : List Record) → low < n → IsRisingFrom low (stocked_from n records)
+stocked_rise n low [] past = tt
+stocked_rise n low (r ∷ rs) past = (past, stocked_rise (suc n) n rs (omega arith))

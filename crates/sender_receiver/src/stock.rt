@@ -34,12 +34,12 @@ pub trait Stock {
 
 /// A list of records as a stock: its first record stands at place 1, and so on.
 impl Stock for Seq<Record> {
-    ghost use Rattle.sender_receiver.specs.Stocks.{stocked_from, placed_rise};
+    ghost use Rattle.sender_receiver.specs.Stocks.{stocked_from, stocked_rise};
     ghost use Rattle.std.proofs.Common.{arith};
 
     ghost held = { stocked_from 1 };
 
-    ghost rising = { λ records. placed_rise 1 0 records (Prim.omega arith) };
+    ghost rising = { λ records. stocked_rise 1 0 records (Prim.omega arith) };
 
     fn after(&self, lid: Lid) -> Option<Lid> {
         if lid < self.len() as u64 {

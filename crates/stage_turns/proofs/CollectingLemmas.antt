@@ -14,7 +14,7 @@ use Rattle.causal_deps.specs.declared.record.Place.{Place}
 use Rattle.causal_deps.specs.declared.record.Record.{Record}
 use Rattle.awareness_table.specs.Awareness.{is_known_everywhere}
 use Rattle.flstore_rounds.specs.Heads.{head}
-use Rattle.log_gc.specs.Floors.{is_collectable, replaced, unless_put}
+use Rattle.log_gc.specs.Floors.{may_be_let_go, replaced, unless_put}
 use Rattle.maintainer.specs.declared.slot.Slot.{Slot}
 use Rattle.maintainer.specs.Maintainers.{AreRising, MaintainerState, collected, value_at}
 use Rattle.maintainer.proofs.CountLemmas.{entry_counts, entry_shown}
@@ -80,9 +80,9 @@ kind_replaced is floor lid Del tags one = refl
 
 -- the test of the collection floor, with what the home of its key says, is that of the stages
 pub may_go_is : (is : List IndexerState) (floor : ℕ) (table : List (List ℕ)) (dcs : ℕ) (e : Slot Record) (newer : Option ℕ) → IsKeyed dcs e.value → newer ≡ newest_of is e.value floor
-    → is_collectable floor table e.lid e.value newer ≡ may_go floor table is e
+    → may_be_let_go floor table e.lid e.value newer ≡ may_go floor table is e
 may_go_is is floor table dcs e newer keyed told =
-    ap (λ o. is_collectable floor table e.lid e.value o) told
+    ap (λ o. may_be_let_go floor table e.lid e.value o) told
     ∙ ap (λ b. leb e.lid floor && (is_known_everywhere table e.value.host e.value.toid && b)) (kind_replaced is floor e.lid e.value.kind e.value.tags keyed.key)
 
 pub above_stays : (is : List IndexerState) (floor : ℕ) (table : List (List ℕ)) (e : Slot Record) → floor < e.lid → false ≡ may_go floor table is e

@@ -7,7 +7,7 @@ use Rattle.causal_deps.specs.declared.record.Kind.TheVariants.{Append}
 use Rattle.record_codec.specs.Wire.{FitsRecord, fewest_tags, most_tags}
 use Rattle.sender_receiver.specs.Stocks.{records_in, stocked_from}
 use Rattle.sender_receiver.specs.Sending.{AreTellable}
-use Rattle.sender_receiver.proofs.Placed.{records_in-placed_from}
+use Rattle.sender_receiver.proofs.Placed.{records_in-stocked_from}
 
 -- a dependency of two entries
 two : (h n : ℕ) → h < 2 → length (set (0 ∷ 0 ∷ []) h n) ≡ 2
@@ -43,7 +43,7 @@ pub tellable : (n : ℕ) (d dcs : ℕ) (records : List Record) → dcs ≡ 2 →
 tellable n d dcs records is_two all =
     let P : List Record → Type 0 = λ rs. AreTellable 2 d rs in
     let D : ℕ → Type 0 = λ m. AreTellable m d (records_in (stocked_from n records)) in
-    subst D (sym is_two) (subst P (sym (records_in-placed_from n records)) (λ k r inside _. all k r inside))
+    subst D (sym is_two) (subst P (sym (records_in-stocked_from n records)) (λ k r inside _. all k r inside))
 
 -- a table with one entry above 0
 small : (x : ℕ) → x < 2 ^ 48 → (k h : ℕ) → entry_of ((0 ∷ 0 ∷ []) ∷ (x ∷ 0 ∷ []) ∷ []) k h < 2 ^ 48
