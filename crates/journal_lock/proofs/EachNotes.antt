@@ -1,14 +1,28 @@
 -- Lists of notes of which each is as T says.
-use Rattle.std.proofs.Common.{◌≡◌, ◌≢◌, ℕ, zero, suc, List, [], ◌∷◌, ◌++◌, set, sym, ◌∙◌, subst, ⊎_elim}
+use Rattle.std.proofs.Common.{◌≡◌, ◌≢◌, ℕ, zero, suc, List, [], ◌∷◌, ◌++◌, set, sym, ◌∙◌, subst, ⊎_elim, arith, Contains, All}
+use Rattle.std.proofs.lemmas.List.Elements.{All-head, All-tail}
 use mathlib.Core.Option.{some}
 use lib.ListN.{get_elem?}
 use Rattle.atomic_table.proofs.Lists.{at_set, set_else, at_snoc}
 use Rattle.journal_lock.specs.declared.law.Note.{Note}
+use Rattle.causal_deps.proofs.Lists.{Contains-cons}
+use Rattle.flstore_rounds.specs.Heads.{Pair, joined}
 use Rattle.journal_lock.specs.Notes.{AllNotes, EachNote}
+use Rattle.journal_lock.specs.Joins.{AreTold, TwoPairs, joins_of, told_as}
 
 pub all_append : (T : Note → Type 0) (xs ys : List Note) → AllNotes T xs → AllNotes T ys → AllNotes T (xs ++ ys)
 all_append T [] ys s t = t
 all_append T (x ∷ xs) ys s t = (s.0, all_append T xs ys s.1 t)
+
+all_contains : (T : Note → Type 0) (xs : List Note) (x : Note) → AllNotes T xs → Contains xs x → T x
+all_contains T [] x t has = absurd (omega (arith, has.1))
+all_contains T (y ∷ ys) x t has = ⊎_elim (λ (is : y ≡ x). subst T is t.0) (λ (there : Contains ys x). all_contains T ys x t.1 there) (Contains-cons y ys x has)
+
+-- what two pairs say together is as T says, where the notes are that tell them
+pub all_joins : (T : Note → Type 0) → ((d : ℕ) (v u : Pair) → T (told_as d v) → T (told_as d u) → T (told_as d (joined v u))) → (xs : List Note) → AllNotes T xs → (twos : List TwoPairs) → AreTold twos xs → AllNotes T (joins_of twos)
+all_joins T closed xs all [] told = tt
+all_joins T closed xs all (t ∷ ts) told = let h = All-head (λ (t : TwoPairs). Contains xs (told_as t.0 t.1) × Contains xs (told_as t.0 t.2)) t ts told in
+    (closed t.0 t.1 t.2 (all_contains T xs (told_as t.0 t.1) all h.0) (all_contains T xs (told_as t.0 t.2) all h.1), all_joins T closed xs all ts (All-tail (λ (t : TwoPairs). Contains xs (told_as t.0 t.1) × Contains xs (told_as t.0 t.2)) t ts told))
 
 pub all_by : (T U : Note → Type 0) → ((x : Note) → T x → U x) → (xs : List Note) → AllNotes T xs → AllNotes U xs
 all_by T U one [] t = tt

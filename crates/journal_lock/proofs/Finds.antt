@@ -16,6 +16,10 @@ use Rattle.journal_lock.specs.declared.law.Note.TheVariants.{Met, Length, Found,
 use Rattle.journal_lock.specs.Duties.{number, datacentre, has, minus, stamped, Among}
 use Rattle.journal_lock.specs.Words.{mark_word, epoch_word, dc_of, guard}
 use Rattle.journal_lock.specs.Notes.{IsTrue, AllTrue}
+use Rattle.causal_deps.specs.Counts.{greater}
+use Rattle.causal_deps.proofs.CountsLemmas.{get_or-greater}
+use Rattle.flstore_rounds.specs.Heads.{Pair, joined}
+use Rattle.journal_lock.specs.Joins.{told_as}
 use Rattle.journal_lock.specs.Names.{lengths_of}
 use Rattle.journal_lock.specs.Finds.{said, best, floor, ended, IsLater, read_notes, Stands, AllStand, Finding, FitsWords, Worded}
 use Rattle.journal_lock.proofs.EachNotes.{all_append}
@@ -88,6 +92,16 @@ all_still words words' same (x ∷ xs) t = (stands_still words words' same x t.0
 pub lengths_stand : (words : List ℕ) (seen : List Event) (ds : List ℕ) → AllStand words (lengths_of ds seen)
 lengths_stand words seen [] = tt
 lengths_stand words seen (d ∷ ds) = (tt, lengths_stand words seen ds)
+
+few_greater : (xs ys : List ℕ) (n : ℕ) → length xs ≤ n → length ys ≤ n → length (greater xs ys) ≤ n
+few_greater [] ys n a b = b
+few_greater (x ∷ xs) [] n a b = a
+few_greater (x ∷ xs) (y ∷ ys) zero a b = absurd (omega arith)
+few_greater (x ∷ xs) (y ∷ ys) (suc n) a b = (let less = few_greater xs ys n (omega arith) (omega arith) in omega arith)
+
+-- what two pairs say together is true of the words, where both are
+pub joins_stand : (words : List ℕ) (d : ℕ) (v u : Pair) → Stands words (told_as d v) → Stands words (told_as d u) → Stands words (told_as d (joined v u))
+joins_stand words d v u s t = (few_greater v.marks u.marks 16 s.0 t.0, s.1, λ m low. (let a = s.2 m low in let b = t.2 m low in omega (arith, get_or-greater v.marks u.marks m)))
 
 -- what marks that were told say of a word
 told_at : (d w : ℕ) (marks : List ℕ) → mark_word d 0 ≤ w → said_by d w marks ≡ get_or marks (w - mark_word d 0) 0

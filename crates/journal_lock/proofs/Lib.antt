@@ -13,6 +13,8 @@ pub mod Marks
 pub mod Settled
 pub mod Rows
 pub mod Starts
+pub mod Pinnings
+pub mod Pairs
+pub mod TieLemmas
 pub mod Sides
 pub mod Steps
-pub mod Pairs

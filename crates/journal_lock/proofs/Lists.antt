@@ -135,6 +135,10 @@ module _ {A : Type 0} (f : A → ℕ) where
 pub nothing_left : {A : Type 0} (f : A → ℕ) (xs : List A) (x : ℕ) → has f x (minus f xs xs) ≡ 0
 nothing_left f xs x = omega (arith, has_minus f xs xs (λ e. le_refl (has f e xs)) x)
 
+pub minus_self : {A : Type 0} (f : A → ℕ) (xs : List A) → minus f xs xs ≡ []
+minus_self f [] = refl
+minus_self f (x ∷ xs) = let self : (f x == f x) ≡ true = grind (arith, nat_tests) in ap (λ b. minus f (cond b xs (x ∷ without f (f x) xs)) xs) self ∙ minus_self f xs
+
 -- each event needs some duty
 abbrev pub main_duty : Event → Duty
 main_duty (Submit s k) = Session s

@@ -1,5 +1,5 @@
 -- The table at the beginning meets the rule: marks of 1, one epoch for each datacentre, and a pass that knows these.
-use Rattle.std.proofs.Common.{◌≡◌, ◌≢◌, ℕ, zero, suc, ◌+◌, ◌*◌, ◌-◌, ◌/◌, ◌%◌, ◌<◌, ◌≤◌, max, List, [], ◌∷◌, map, length, get_or, replicate, Some, refl, ap, sym, ◌∙◌, subst, inl, arith}
+use Rattle.std.proofs.Common.{None, ◌≡◌, ◌≢◌, ℕ, zero, suc, ◌+◌, ◌*◌, ◌-◌, ◌/◌, ◌%◌, ◌<◌, ◌≤◌, max, List, [], ◌∷◌, map, length, get_or, replicate, Some, refl, ap, sym, ◌∙◌, subst, inl, arith}
 use Rattle.std.specs.List.{All}
 use Rattle.std.proofs.lemmas.Bool.Decides.{nat_tests}
 use Rattle.std.proofs.lemmas.List.{get_or_past, get_or-map, get_or-replicate, length-replicate, length-map}
@@ -28,6 +28,9 @@ use Rattle.journal_lock.specs.Marks.{epoch_of, epochs_by, Marked}
 use Rattle.journal_lock.specs.Heads.{pair_of, known_list, IsPlaced, Agrees, Paired}
 use Rattle.journal_lock.specs.Start.{first_of, first_list, first_word, first_notes, fresh}
 use Rattle.journal_lock.specs.Rule.{Sides}
+use Rattle.journal_lock.specs.Pins.{FitsPins, Pinning}
+use Rattle.journal_lock.specs.Ties.{IsTied}
+use Rattle.journal_lock.proofs.TieLemmas.{all_tied}
 use Rattle.journal_lock.proofs.Lists.{has_append}
 use Rattle.journal_lock.proofs.Numbers.{below, has_dcs, has_sessions}
 use Rattle.journal_lock.proofs.Places as places
@@ -161,7 +164,15 @@ module _ (load : Workload) (round : ℕ) (ns : List ℕ) (fits : FitsWorkload lo
   one_notes T t zero xs e = subst (AllNotes T) (some-injective notes xs e) t
   one_notes T t (suc j) xs e = cc
 
-  pub start_sides : Sides load.dcs round [] words (fresh (record { workload = load; round = round; maintainers = ns }) ∷ [])
+  one_tied : (j : ℕ) (ds : List Duty) → get_elem? (all_duties load ∷ []) j ≡ some ds → IsTied load ds
+  one_tied zero ds e = subst (IsTied load) (some-injective (all_duties load) ds e) (all_tied load fits.few)
+  one_tied (suc j) ds e = cc
+
+  one_pinning : (j : ℕ) (x : Pinning) → get_elem? (((all_duties load, []), ([], []), ([], [])) ∷ []) j ≡ some x → FitsPins load (λ s. None) x
+  one_pinning zero x e = subst (FitsPins load (λ s. None)) (some-injective ((all_duties load, []), ([], []), ([], [])) x e) record { now = λ s low more. refl; left = λ s low more. refl; right = λ s low more. refl }
+  one_pinning (suc j) x e = cc
+
+  pub start_sides : Sides load round [] words (fresh (record { workload = load; round = round; maintainers = ns }) ∷ [])
   start_sides = record {
     noted = one_notes (IsTrue []) all_true;
     found = record {
@@ -171,6 +182,8 @@ module _ (load : Workload) (round : ℕ) (ns : List ℕ) (fits : FitsWorkload lo
     };
     marked = record { filled = λ d m p small few first low mine. absurd (omega (arith, of_mark d m small few)) };
     named = places.starts (all_duties load);
+    tied = one_tied;
+    pinned = record { pins = λ s. None; each = one_pinning };
     paired = record {
       lists = λ d low. (let s = some_members d low in subst IsEpochList (sym (list_is d low)) (first_epoch_list round (get_or ns d 0) from to s.0 s.1));
       reached = λ d m small few. inl (omega (arith, of_mark d m small few));

@@ -17,7 +17,7 @@ use Rattle.journal_lock.specs.declared.law.Stage.TheVariants.{Idle, Out, Back}
 use Rattle.journal_lock.specs.declared.law.Hold.{Hold}
 use Rattle.journal_lock.specs.declared.law.Note.TheVariants.{Met, Found, Told}
 use Rattle.journal_lock.specs.declared.law.View.{View}
-use Rattle.journal_lock.specs.Duties.{Among, HasDuty, all_duties, datacentre, has, is_inside, number, often, place, stamped}
+use Rattle.journal_lock.specs.Duties.{Among, HasDuty, all_duties, datacentre, has, is_inside, minus, number, often, place, stamped}
 use Rattle.journal_lock.specs.Law.{Book, total, lives, Homes, Locked, hold_of, At, Sat, spent, kept, given, joined, names, counted, learnt, staged, Counts, Frees}
 use Rattle.journal_lock.specs.Takes.{Takes, Learns}
 use Rattle.journal_lock.specs.Start.{first_word, fresh}
@@ -29,6 +29,11 @@ use Rattle.journal_lock.specs.Finds.{best, IsLater, Finding, FitsWords, Stands, 
 use Rattle.journal_lock.specs.Marks.{MayRise, placed_by, placed_of, epoch_of}
 use Rattle.journal_lock.specs.Heads.{HeadsStand, IsPlaced, Reaches, Agrees, Tells, Sees, Raises, is_end, pair_of, known_list, known_marks, settled, tell_notes, told, risen_notes}
 use Rattle.journal_lock.specs.declared.duty.Duty.TheVariants.{Token, Maintainer}
+use Rattle.journal_lock.specs.Joins.{AreTold, TwoPairs}
+use Rattle.journal_lock.specs.declared.law.SessionPin.{SessionPin}
+use Rattle.journal_lock.specs.Pins.{MayPin, Pinning, PinsAgree, pinning_of}
+use Rattle.journal_lock.proofs.Pinnings.{plain_pins}
+use Rattle.journal_lock.specs.Ties.{IsTied, held_by}
 use Rattle.journal_lock.specs.Names.{IsNamed, NamesByDuty, Naming, named, naming_of, amended, Amends, Meets}
 use Rattle.journal_lock.specs.Rule.{Sides, Keeps}
 use Rattle.journal_lock.proofs.Lists.{prefix_self, prefix_length, total_one, stamped_known}
@@ -68,7 +73,7 @@ inside_low n p more = grind (arith, nat_tests)
 
 -- a rule put together: the words, the slot and what the views hold
 pub made : (load : Workload) (round : ℕ) → FitsWorkload load → (log : List Event) (words : List ℕ) (homes : Homes) (views : List View) (t c : ℕ) (hs : List Hold) → length words ≡ 258 → get_or words 0 0 ≡ t → get_or words 1 0 ≡ c → map hold_of views ≡ hs
-    → Locked load log t c homes hs → Sides load.dcs round log words views → Keeps load round record { words = words; homes = homes; views = views }
+    → Locked load log t c homes hs → Sides load round log words views → Keeps load round record { words = words; homes = homes; views = views }
 made load round fits log words homes views t c hs wide turn count same r sides = record {
   fits = fits;
   log = log;
@@ -121,7 +126,7 @@ module _ (load : Workload) (round : ℕ) (slots id : ℕ) (m : Sat) where
         home.2,
         made load round r.fits r.log (set s.words 0 1) (set s.homes 0 none) (set s.views id w) 1 (get_or s.words 1 0) (set hs id w.hold) (length-set s.words 0 1 ∙ r.wide) (get_or-set_same s.words 0 1 0 (omega arith))
             (get_or-set_other s.words 0 1 1 0 (λ e. omega arith)) (map-set hold_of s.views id w) (locks.takes load r.log x (get_or s.words 1 0) s.homes hs r.lock id m.0.hold here hit is duty)
-            (keep_sides load.dcs round r.log s.words s.views r.sides id m.0 at 0 1 (omega arith) w (r.lock.each id m.0.hold here).now.begins refl),
+            (keep_sides load round r.log s.words s.views r.sides id m.0 at 0 1 (omega arith) w (r.lock.each id m.0.hold here).now.begins refl (λ known t. plain_pins load known (pinning_of m.0) t)),
         (
           (λ _. (
             b,
@@ -142,7 +147,7 @@ module _ (load : Workload) (round : ℕ) (slots id : ℕ) (m : Sat) where
         tt,
         made load round r.fits r.log (set s.words 0 x) s.homes (set s.views id m.0) x (get_or s.words 1 0) hs (length-set s.words 0 x ∙ r.wide) (get_or-set_same s.words 0 x 0 (omega arith))
             (get_or-set_other s.words 0 1 x 0 (λ e. omega arith)) (same_map hold_of s.views id m.0 m.0 at refl) r.lock
-            (keep_sides load.dcs round r.log s.words s.views r.sides id m.0 at 0 x (omega arith) m.0 (prefix_self m.0.hold.now.seen) refl),
+            (keep_sides load round r.log s.words s.views r.sides id m.0 at 0 x (omega arith) m.0 (prefix_self m.0.hold.now.seen) refl (λ _ t. t)),
         ((λ hit. absurd (miss hit)), λ _. refl),
       ))
 
@@ -159,7 +164,7 @@ module _ (load : Workload) (round : ℕ) (slots id : ℕ) (m : Sat) where
             (made load round r.fits w.log (set s.words 1 new) (set s.homes 0 (some (Some w))) (set s.views id v) (get_or s.words 0 0) (length w.log) (set hs id v.hold) (length-set s.words 1 new ∙ r.wide)
             (get_or-set_other s.words 1 0 new 0 (λ e. omega arith)) (get_or-set_same s.words 1 new 0 (omega arith) ∙ count) (map-set hold_of s.views id v)
             (locks.counts load r.log (get_or s.words 0 0) (get_or s.words 1 0) s.homes hs r.lock id m.0.hold here is w (subst (λ (l : Workload). IsRun l w.log) right run) grown own (omega arith))
-            (count_sides load.dcs round r.log s.words s.views r.sides id m.0 at w.log (subst (λ (l : List Event). IsPrefix l w.log) saw grown) saw (locks.holder_duty load r.log (get_or s.words 0 0) (get_or s.words 1 0) s.homes hs r.lock id m.0.hold here is) (stamped_once load w.log r.fits (subst (λ (l : Workload). IsRun l w.log) right run)) 1 new (omega arith))),
+            (count_sides load round r.log s.words s.views r.sides id m.0 at w.log (subst (λ (l : List Event). IsPrefix l w.log) saw grown) saw (locks.holder_duty load r.log (get_or s.words 0 0) (get_or s.words 1 0) s.homes hs r.lock id m.0.hold here is) (stamped_once load w.log r.fits (subst (λ (l : Workload). IsRun l w.log) right run)) 1 new (omega arith))),
         λ u carries'. (let same : w ≡ u = ap (book_at w) (sym carries ∙ carries') in (ap (λ (b : Book). counted m.0 b.log) same, ap Rattle.atomic_table.specs.Table.rest carries)),
       )
 
@@ -170,53 +175,72 @@ module _ (load : Workload) (round : ℕ) (slots id : ℕ) (m : Sat) where
     tt,
     made load round r.fits r.log (set s.words 0 0) s.homes (set s.views id v) 0 (get_or s.words 1 0) (set hs id v.hold) (length-set s.words 0 0 ∙ r.wide) (get_or-set_same s.words 0 0 0 (omega arith))
         (get_or-set_other s.words 0 1 0 0 (λ e. omega arith)) (map-set hold_of s.views id v) (locks.frees load r.log (get_or s.words 0 0) (get_or s.words 1 0) s.homes hs r.lock id m.0.hold here is)
-        (keep_sides load.dcs round r.log s.words s.views r.sides id m.0 at 0 0 (omega arith) v (prefix_self m.0.hold.now.seen) refl),
+        (keep_sides load round r.log s.words s.views r.sides id m.0 at 0 0 (omega arith) v (prefix_self m.0.hold.now.seen) refl (λ known t. plain_pins load known (pinning_of m.0) t)),
     (refl, refl),
   )
 
   -- a look at the count, after which the seat has another view
-  look : (s : At) (r : Rule s) → get_elem? s.views id ≡ some m.0 → (w : View) → Locked load r.log (get_or s.words 0 0) (get_or s.words 1 0) s.homes (set (map hold_of s.views) id w.hold) → Sides load.dcs round r.log (set s.words 1 (get_or s.words 1 0)) (set s.views id w) → Rule (stepped s 1 (get_or s.words 1 0) id m.1 w keeps)
+  look : (s : At) (r : Rule s) → get_elem? s.views id ≡ some m.0 → (w : View) → Locked load r.log (get_or s.words 0 0) (get_or s.words 1 0) s.homes (set (map hold_of s.views) id w.hold) → Sides load round r.log (set s.words 1 (get_or s.words 1 0)) (set s.views id w) → Rule (stepped s 1 (get_or s.words 1 0) id m.1 w keeps)
   look s r at w lock sides = let wide = r.wide in let x : ℕ = get_or s.words 1 0 in
       made load round r.fits r.log (set s.words 1 x) s.homes (set s.views id w) (get_or s.words 0 0) x (set (map hold_of s.views) id w.hold) (length-set s.words 1 x ∙ r.wide) (get_or-set_other s.words 1 0 x 0 (λ e. omega arith))
       (get_or-set_same s.words 1 x 0 (omega arith)) (map-set hold_of s.views id w) lock sides
 
   -- the same where what it holds stays
-  look_on : (s : At) (r : Rule s) → get_elem? s.views id ≡ some m.0 → (w : View) → w.hold ≡ m.0.hold → Sides load.dcs round r.log s.words (set s.views id w) → Rule (stepped s 1 (get_or s.words 1 0) id m.1 w keeps)
+  look_on : (s : At) (r : Rule s) → get_elem? s.views id ≡ some m.0 → (w : View) → w.hold ≡ m.0.hold → Sides load round r.log s.words (set s.views id w) → Rule (stepped s 1 (get_or s.words 1 0) id m.1 w keeps)
   look_on s r at w same sides = look s r at w
       (subst (Locked load r.log (get_or s.words 0 0) (get_or s.words 1 0) s.homes) (sym (ap (set (map hold_of s.views) id) same ∙ set_again (map hold_of s.views) id m.0.hold (at_map hold_of s.views id m.0 at))) r.lock)
-      (subst (λ (l : List ℕ). Sides load.dcs round r.log l (set s.views id w)) (sym (set-get_or s.words 1 0)) sides)
+      (subst (λ (l : List ℕ). Sides load round r.log l (set s.views id w)) (sym (set-get_or s.words 1 0)) sides)
 
   -- the seat names what it has seen
   names_seen : (s : At) (r : Rule s) → get_elem? s.views id ≡ some m.0 → IsNamed m.0.hold.now.seen m.0.names
   names_seen s r at = (r.sides.named.each id (naming_of m.0) (at_map naming_of s.views id m.0 at)).stamped
 
-  pub learn_step : Allows Rule slots id m 1 (λ x. x) (Learns round (step slots 1 0 0 none) m)
+  -- the two passes that the seat was know the same pins
+  pins_agree : (s : At) (r : Rule s) → get_elem? s.views id ≡ some m.0 → PinsAgree load (m.0.hold.left.duties, m.0.pins.left) (m.0.hold.right.duties, m.0.pins.right)
+  pins_agree s r at n low a b = let f = r.sides.pinned.each id (pinning_of m.0) (at_map pinning_of s.views id m.0 at) in f.left n low a ∙ sym (f.right n low b)
+
+  pub learn_step : Allows Rule slots id m 1 (λ x. x) (Learns load round (step slots 1 0 0 none) m)
   learn_step s r len at small = let hs : List Hold = map hold_of s.views in let here = at_map hold_of s.views id m.0 at in let v : View = learnt m.0 in let f = r.lock.each id m.0.hold here in (
     v,
     keeps,
     tt,
-    look s r at v (locks.forgets load r.log (get_or s.words 0 0) (get_or s.words 1 0) s.homes hs r.lock id m.0.hold here) (keep_sides load.dcs round r.log s.words s.views r.sides id m.0 at 1 (get_or s.words 1 0) (omega arith) v (prefix_self m.0.hold.now.seen) refl),
-    (locks.within r.log m.0.hold.left m.0.hold.now f.left f.now f.no_less.0, locks.within r.log m.0.hold.right m.0.hold.now f.right f.now f.no_less.1, names_seen s r at, heads_join round s.words (IsPlaced (map placed_of s.views)) m.0.notes (r.sides.paired.each id m.0.notes (at_map notes_of s.views id m.0 at)), refl),
+    look s r at v (locks.forgets load r.log (get_or s.words 0 0) (get_or s.words 1 0) s.homes hs r.lock id m.0.hold here) (keep_sides load round r.log s.words s.views r.sides id m.0 at 1 (get_or s.words 1 0) (omega arith) v (prefix_self m.0.hold.now.seen) refl (λ known t. plain_pins load known (pinning_of m.0) t)),
+    (locks.within r.log m.0.hold.left m.0.hold.now f.left f.now f.no_less.0, locks.within r.log m.0.hold.right m.0.hold.now f.right f.now f.no_less.1, names_seen s r at, heads_join round s.words (IsPlaced (map placed_of s.views)) m.0.notes (r.sides.paired.each id m.0.notes (at_map notes_of s.views id m.0 at)), pins_agree s r at, refl),
   )
 
-  pub meet_step : Allows Rule slots id m 1 (λ x. x) (Meets (step slots 1 0 0 none) m)
-  meet_step s r len at small = let here = at_map hold_of s.views id m.0 at in let x : ℕ = get_or s.words 1 0 in let count = r.lock.counted in (
+  pub meet_step : m.0.hold.stage ≡ Idle → Allows Rule slots id m 1 (λ x. x) (Meets (step slots 1 0 0 none) m)
+  meet_step is s r len at small = let there : lives m.0.hold.stage ≡ 1 = ap lives is in let right : m.0.hold.load ≡ load = (r.lock.each id m.0.hold (at_map hold_of s.views id m.0 at)).plan (omega arith) in let here = at_map hold_of s.views id m.0 at in let x : ℕ = get_or s.words 1 0 in let count = r.lock.counted in (
     noted m.0 (Met x),
     keeps,
     tt,
-    look_on s r at (noted m.0 (Met x)) refl (notes_sides load.dcs round r.log s.words s.views r.sides id m.0 at (Met x ∷ []) (omega arith, tt) (tt, tt) (tt, tt)),
-    (omega (arith, prefix_length m.0.hold.now.seen r.log (r.lock.each id m.0.hold here).now.begins), names_seen s r at, refl),
+    look_on s r at (noted m.0 (Met x)) refl (notes_sides load round r.log s.words s.views r.sides id m.0 at (Met x ∷ []) (omega arith, tt) (tt, tt) (tt, tt)),
+    (
+      omega (arith, prefix_length m.0.hold.now.seen r.log (r.lock.each id m.0.hold here).now.begins),
+      names_seen s r at,
+      subst (λ (l : Workload). IsTied l m.0.hold.now.duties) (sym right) (r.sides.tied id m.0.hold.now.duties (at_map held_by s.views id m.0 at)),
+      (λ y. omega (arith, r.lock.single y, r.lock.duties y, total_one (λ (h : Hold). has number y h.now.duties) (map hold_of s.views) id m.0.hold here)),
+      refl,
+    ),
   )
 
-  -- names at hand are placed, and lengths noted
-  pub amend_step : (ps : List Position) (ds : List ℕ) → Among place ps m.0.names.hand → Allows Rule slots id m 1 (λ x. x) (Amends ps ds (step slots 1 0 0 none) m)
-  amend_step ps ds among s r len at small = let here = at_map hold_of s.views id m.0 at in let w : View = amended ps ds m.0 in (
-    w,
-    keeps,
-    tt,
-    look_on s r at w refl (amend_sides load.dcs round r.log s.words s.views r.sides id m.0 at ps ds among (r.lock.each id m.0.hold here).now.begins),
-    refl,
-  )
+  -- no other view has a duty that the seat has, nor did those that it was
+  pins_alone : (s : At) (r : Rule s) → get_elem? s.views id ≡ some m.0 → (j : ℕ) (z : Pinning) → j ≢ id → get_elem? (map pinning_of s.views) j ≡ some z → (y : ℕ) → 0 < has number y m.0.hold.now.duties → (has number y z.0.0 ≡ 0) × (has number y z.1.0 ≡ 0) × (has number y z.2.0 ≡ 0)
+  pins_alone s r at j z ne e y duty = let v = at_unmap pinning_of s.views j z e in let there = at_map hold_of s.views j v.0 v.1 in let f = r.lock.each j v.0.hold there in
+      let none = locks.alone load r.log (get_or s.words 0 0) (get_or s.words 1 0) s.homes (map hold_of s.views) r.lock id m.0.hold (at_map hold_of s.views id m.0 at) y duty j v.0.hold there ne in
+      let gone : (n : ℕ) → (0 < n → 0 < has number y v.0.hold.now.duties) → n ≡ 0 = λ n more. dite (ℕ_discrete n 0) (λ is. is) (λ some_duty. absurd (omega (arith, more (omega arith)))) in
+      subst (λ (q : Pinning). (has number y q.0.0 ≡ 0) × (has number y q.1.0 ≡ 0) × (has number y q.2.0 ≡ 0)) v.2
+      (none, gone (has number y v.0.hold.left.duties) (f.parts.0 y), gone (has number y v.0.hold.right.duties) (f.parts.1 y))
+
+  -- names at hand are placed, lengths noted, pairs as one, and pins set
+  pub amend_step : m.0.hold.stage ≡ Idle → (ps : List Position) (ds : List ℕ) (twos : List TwoPairs) (changes : List SessionPin) → Among place ps m.0.names.hand → AreTold twos m.0.notes → MayPin m.0.hold.load m.0.hold.now.duties changes → Allows Rule slots id m 1 (λ x. x) (Amends ps ds twos changes (step slots 1 0 0 none) m)
+  amend_step is ps ds twos changes among told may s r len at small = let here = at_map hold_of s.views id m.0 at in let w : View = amended ps ds twos changes m.0 in let there : lives m.0.hold.stage ≡ 1 = ap lives is in
+      let right : m.0.hold.load ≡ load = (r.lock.each id m.0.hold here).plan (omega arith) in (
+        w,
+        keeps,
+        tt,
+        look_on s r at w refl (amend_sides load round r.log s.words s.views r.sides id m.0 at ps ds twos changes among told (subst (λ (l : Workload). MayPin l m.0.hold.now.duties changes) right may) (pins_alone s r at) (r.lock.each id m.0.hold here).now.begins),
+        refl,
+      )
 
   -- nobody else has a duty that this pass has
   alone : (s : At) (r : Rule s) → get_elem? s.views id ≡ some m.0 → (x : ℕ) → 0 < has number x m.0.hold.now.duties → (j : ℕ) (y : Finding) → j ≢ id → get_elem? (map finding_of s.views) j ≡ some y → has number x y.0 ≡ 0
@@ -224,7 +248,7 @@ module _ (load : Workload) (round : ℕ) (slots id : ℕ) (m : Sat) where
       subst (λ (z : Finding). has number x z.0 ≡ 0) v.2 (locks.alone load r.log (get_or s.words 0 0) (get_or s.words 1 0) s.homes (map hold_of s.views) r.lock id m.0.hold (at_map hold_of s.views id m.0 at) x duty j v.0.hold (at_map hold_of s.views j v.0 v.1) ne)
 
   -- a step on a word of marks or epochs leaves what the views hold
-  aside : (s : At) (r : Rule s) (w x : ℕ) (v : View) → 2 ≤ w → get_elem? s.views id ≡ some m.0 → v.hold ≡ m.0.hold → Sides load.dcs round r.log (set s.words w x) (set s.views id v) → Rule (stepped s w x id m.1 v keeps)
+  aside : (s : At) (r : Rule s) (w x : ℕ) (v : View) → 2 ≤ w → get_elem? s.views id ≡ some m.0 → v.hold ≡ m.0.hold → Sides load round r.log (set s.words w x) (set s.views id v) → Rule (stepped s w x id m.1 v keeps)
   aside s r w x v from at same sides = made load round r.fits r.log (set s.words w x) s.homes (set s.views id v) (get_or s.words 0 0) (get_or s.words 1 0) (map hold_of s.views) (length-set s.words w x ∙ r.wide)
       (get_or-set_other s.words w 0 x 0 (λ e. omega arith)) (get_or-set_other s.words w 1 x 0 (λ e. omega arith)) (same_map hold_of s.views id m.0 v at same) r.lock sides
 
@@ -237,7 +261,7 @@ module _ (load : Workload) (round : ℕ) (slots id : ℕ) (m : Sat) where
         v,
         keeps,
         tt,
-        aside s r w x v from at refl (subst (λ (l : List ℕ). Sides load.dcs round r.log l (set s.views id v)) (sym (set-get_or s.words w 0)) (notes_sides load.dcs round r.log s.words s.views r.sides id m.0 at (Found w x ∷ []) (t, tt) ((from, le_refl x, λ high more. refl), tt) (reached, tt))),
+        aside s r w x v from at refl (subst (λ (l : List ℕ). Sides load round r.log l (set s.views id v)) (sym (set-get_or s.words w 0)) (notes_sides load round r.log s.words s.views r.sides id m.0 at (Found w x ∷ []) (t, tt) ((from, le_refl x, λ high more. refl), tt) (reached, tt))),
         (best_low s.words w m.0.notes f.stand, (λ high more. best_same s.words w m.0.notes high f.stand more), (λ duty. f.own w from duty), refl),
       )
 
@@ -267,8 +291,8 @@ module _ (load : Workload) (round : ℕ) (slots id : ℕ) (m : Sat) where
     -- the seat has these notes, and true ones before them
     noting : (extra : List Note) → AllTrue r.log extra → AllStand s.words extra → AllNotes Fact extra → Rule (stepped s w value id m.1 (with_notes m.0 ((extra ++ read) ++ m.0.notes)) keeps)
     noting extra t u a = aside s r w value (with_notes m.0 ((extra ++ read) ++ m.0.notes)) (omega arith) at refl
-        (subst (λ (l : List ℕ). Sides load.dcs round r.log l (set s.views id (with_notes m.0 ((extra ++ read) ++ m.0.notes)))) (sym (set-get_or s.words w 0))
-        (notes_sides load.dcs round r.log s.words s.views r.sides id m.0 at (extra ++ read) (all_append (IsTrue r.log) extra read t is_true) (all_append (Stands s.words) extra read u stands) (all_append Fact extra read a agrees)))
+        (subst (λ (l : List ℕ). Sides load round r.log l (set s.views id (with_notes m.0 ((extra ++ read) ++ m.0.notes)))) (sym (set-get_or s.words w 0))
+        (notes_sides load round r.log s.words s.views r.sides id m.0 at (extra ++ read) (all_append (IsTrue r.log) extra read t is_true) (all_append (Stands s.words) extra read u stands) (all_append Fact extra read a agrees)))
 
   -- an epoch is loaded, or none is found
   pub read_step : (w : ℕ) → 130 ≤ w → w < 258 → Allows Rule slots id m w (λ x. x) (Reads (step slots w 0 0 none) m)
@@ -328,7 +352,7 @@ module _ (load : Workload) (round : ℕ) (slots id : ℕ) (m : Sat) where
         m.0,
         keeps,
         tt,
-        aside s r w x m.0 (omega arith) at refl (subst (λ (z : List ℕ × List View). Sides load.dcs round r.log z.0 z.1) (λ i. (sym (set-get_or s.words w 0) i, sym (set_again s.views id m.0 at) i)) r.sides),
+        aside s r w x m.0 (omega arith) at refl (subst (λ (z : List ℕ × List View). Sides load round r.log z.0 z.1) (λ i. (sym (set-get_or s.words w 0) i, sym (set_again s.views id m.0 at) i)) r.sides),
         (
           (λ duty. (let token = subst (λ z. 0 < has number z m.0.hold.now.duties) (ap guard is ∙ guard_epoch d k (omega arith)) duty in (
             f.own w (omega arith) duty,
@@ -359,7 +383,7 @@ module _ (load : Workload) (round : ℕ) (slots id : ℕ) (m : Sat) where
         keeps,
         tt,
         aside s r w (max old x) (with_notes m.0 (risen_notes round d k x m.0.notes)) (omega arith) at refl
-            (write_sides load.dcs round r.log s.words s.views r.sides id m.0 at w x (max old x) (told_is ∷ []) (omega arith) (omega arith) duty (alone s r at (guard w) duty) refl (λ high. absurd (omega arith)) (λ high. absurd (omega arith))
+            (write_sides load round r.log s.words s.views r.sides id m.0 at w x (max old x) (told_is ∷ []) (omega arith) (omega arith) duty (alone s r at (guard w) duty) refl (λ high. absurd (omega arith)) (λ high. absurd (omega arith))
             (true_longer m.0.hold.now.seen r.log seen (Found w x) t) (λ g j lt z. absurd (omega arith)) (tt, tt) (single_stands e words' d k x small few (omega arith), tt)
             (marks.raises round s.words (map placed_of s.views) r.sides.marked d k x small few w refl (omega arith) (λ p from low mine. own p (risen round d k x m.0.notes m.0.names.placed s.words f.stand may p from low mine)))
             (λ all. heads.raises load.dcs round s.words (map placed_of s.views) (map notes_of s.views) r.sides.paired d k x small few w refl (omega arith) reached (set (map notes_of s.views) id (told_is ∷ Found w x ∷ m.0.notes)) all)
@@ -392,7 +416,7 @@ module _ (load : Workload) (round : ℕ) (slots id : ℕ) (m : Sat) where
         v,
         keeps,
         tt,
-        aside s r w x v (omega arith) at refl (write_sides load.dcs round r.log s.words s.views r.sides id m.0 at w x x [] (omega arith) (omega arith) duty (alone s r at (guard w) duty) (omega arith) (λ _ some_epoch. absurd (omega arith)) (λ _. refl)
+        aside s r w x v (omega arith) at refl (write_sides load round r.log s.words s.views r.sides id m.0 at w x x [] (omega arith) (omega arith) duty (alone s r at (guard w) duty) (omega arith) (λ _ some_epoch. absurd (omega arith)) (λ _. refl)
             (λ h i a b z. absurd (omega arith))
             (λ h j lt z. (let h_is : h ≡ d = omega arith in let j_is : j ≡ k = omega arith in (
               subst (λ u. IsLater (has datacentre u (stamped r.log)) x) (sym h_is) later,
@@ -416,10 +440,10 @@ module _ (load : Workload) (round : ℕ) (slots id : ℕ) (m : Sat) (load' : Wor
       subst (λ (z : Workload × ℕ). Allows (Keeps load round) slots id m w (λ x. x) (Tells z.0 z.1 (step slots w 0 0 none) m)) (λ i. (same_load i, same_round i))
       (tell_step load round slots id m w k (omega arith) few (is ∙ ap (λ z. epoch_word z k) (sym of)) (subst (λ z. (j : ℕ) → j < k → 0 < best (epoch_word z j) m.0.notes) (sym of) before))
 
-module _ (load : Workload) (round : ℕ) (slots id : ℕ) (m : Sat) (round' : ℕ) (same_round : round ≡ round') where
-  pub learn_by : Allows (Keeps load round) slots id m 1 (λ x. x) (Learns round' (step slots 1 0 0 none) m)
-  learn_by = subst (λ z. Allows (Keeps load round) slots id m 1 (λ x. x) (Learns z (step slots 1 0 0 none) m)) same_round (learn_step load round slots id m)
+  pub learn_by : Allows (Keeps load round) slots id m 1 (λ x. x) (Learns load' round' (step slots 1 0 0 none) m)
+  learn_by = subst (λ (z : Workload × ℕ). Allows (Keeps load round) slots id m 1 (λ x. x) (Learns z.0 z.1 (step slots 1 0 0 none) m)) (λ i. (same_load i, same_round i)) (learn_step load round slots id m)
 
+module _ (load : Workload) (round : ℕ) (slots id : ℕ) (m : Sat) (round' : ℕ) (same_round : round ≡ round') where
   pub see_by : (w : ℕ) → 130 ≤ w → w < 258 → Allows (Keeps load round) slots id m w (λ x. x) (Sees round' (step slots w 0 0 none) m)
   see_by w high low = subst (λ z. Allows (Keeps load round) slots id m w (λ x. x) (Sees z (step slots w 0 0 none) m)) same_round (see_step load round slots id m w high low)
 
@@ -430,13 +454,13 @@ module _ (load : Workload) (round : ℕ) (slots id : ℕ) (m : Sat) (round' : �
 
 module _ (load : Workload) (round : ℕ) (id : ℕ) (v : View) where
   pub split_step : v.hold.stage ≡ Idle → (ds : List Duty) (hand placed : List Position) → Among number ds v.hold.now.duties → Among place hand v.names.hand → Among place placed v.names.placed
-      → NamesByDuty (kept ds hand placed v).hold.now.duties (kept ds hand placed v).names → NamesByDuty ds (names hand placed)
+      → NamesByDuty (kept ds hand placed v).hold.now.duties (kept ds hand placed v).names → NamesByDuty ds (names hand placed) → IsTied v.hold.load (minus number v.hold.now.duties ds) → IsTied v.hold.load ds
       → Splits (Keeps load round) id v (kept ds hand placed v) (given ds hand placed v)
-  split_step is ds hand placed among a b mine other s r at = let hs : List Hold = map hold_of s.views in let here = at_map hold_of s.views id v at in let w : View = kept ds hand placed v in let g : View = given ds hand placed v in
+  split_step is ds hand placed among a b mine other left_tied right_tied s r at = let lively : lives v.hold.stage ≡ 1 = ap lives is in let right : v.hold.load ≡ load = (r.lock.each id v.hold (at_map hold_of s.views id v at)).plan (omega arith) in let hs : List Hold = map hold_of s.views in let here = at_map hold_of s.views id v at in let w : View = kept ds hand placed v in let g : View = given ds hand placed v in
       made load round r.fits r.log s.words s.homes (set s.views id w ++ g ∷ []) (get_or s.words 0 0) (get_or s.words 1 0) (set hs id w.hold ++ g.hold ∷ []) r.wide refl refl
       (map-append hold_of (set s.views id w) (g ∷ []) ∙ ap (λ l. l ++ g.hold ∷ []) (map-set hold_of s.views id w))
       (locks.splits load r.log (get_or s.words 0 0) (get_or s.words 1 0) s.homes hs r.lock id v.hold here is ds among)
-      (split_sides load.dcs round r.log s.words s.views r.sides id v at ds hand placed among a b mine other)
+      (split_sides load round r.log s.words s.views r.sides id v at ds hand placed among a b mine other (subst (λ (l : Workload). IsTied l (minus number v.hold.now.duties ds)) right left_tied) (subst (λ (l : Workload). IsTied l ds) right right_tied))
 
   pub join_step : v.hold.stage ≡ Idle → (other : ℕ) (w : View) → w.hold.stage ≡ Idle → Joins (Keeps load round) id v other w (joined v w) spent
   join_step is other w too s r at apart there = let hs : List Hold = map hold_of s.views in let here = at_map hold_of s.views id v at in let j : View = joined v w in let vs : List View = set s.views id j in
@@ -446,7 +470,7 @@ module _ (load : Workload) (round : ℕ) (id : ℕ) (v : View) where
       made load round r.fits r.log s.words s.homes (set vs other spent) (get_or s.words 0 0) (get_or s.words 1 0) (set (set hs id j.hold) other spent.hold) r.wide refl refl
       (map-set hold_of vs other spent ∙ ap (λ l. set l other spent.hold) same)
       (locks.joins load r.log (get_or s.words 0 0) (get_or s.words 1 0) s.homes hs r.lock id v.hold here is other w.hold apart wt too)
-      (join_sides load.dcs round r.log s.words s.views r.sides id v at other w both.0 both.1 apart there)
+      (join_sides load round r.log s.words s.views r.sides id v at (f.plan (let lively : lives v.hold.stage ≡ 1 = ap lives is in omega arith)) other w both.0 both.1 apart there)
 
 -- a closed lock: who has every duty has seen the journal, which lies in the slot
 pub closing : (load : Workload) (round : ℕ) (id : ℕ) (v : View) (words : List ℕ) (slots : List (Option Book)) → v.hold.stage ≡ Idle → Among number (all_duties load) v.hold.now.duties → Final (Seen (Keeps load round) id v) words slots

@@ -16,7 +16,10 @@ use Rattle.journal_lock.specs.declared.law.Stage.TheVariants.{Idle, Out, Back, S
 use Rattle.journal_lock.specs.declared.law.Known.{Known}
 use Rattle.journal_lock.specs.declared.law.Hold.{Hold}
 use Rattle.journal_lock.specs.declared.law.Names.{Names}
+use Rattle.journal_lock.specs.declared.law.Pins.{Pins}
 use Rattle.journal_lock.specs.declared.law.View.{View}
+use Rattle.cz_base.specs.declared.limits.TheConstants.{SESSIONS}
+use Rattle.journal_lock.specs.Pins.{pins_of_both}
 use Rattle.journal_lock.specs.Duties.{number, place, has, minus, often, stamped, all_duties, HasDuty}
 
 -- what a journal is to a contract: its events, and how many more it has room for
@@ -123,17 +126,25 @@ both_known k l = known (longer k.seen l.seen) (k.duties ++ l.duties)
 abbrev pub names : List Position → List Position → Names
 names hand placed = record { hand = hand; placed = placed }
 
+-- nothing is pinned, as far as is known
+abbrev pub no_pins : Pins
+no_pins = record { now = []; left = []; right = [] }
+
+-- what two passes know of pins, as one
+abbrev pub both_pins : View → View → Pins
+both_pins v w = record { now = pins_of_both v.hold.load v.hold.now.duties v.pins.now w.pins.now SESSIONS; left = v.pins.now; right = w.pins.now }
+
 abbrev pub with_names : View → Names → View
-with_names v x = record { hold = v.hold; notes = v.notes; names = x }
+with_names v x = record { hold = v.hold; notes = v.notes; names = x; pins = v.pins }
 
 abbrev pub with_hold : View → Hold → View
-with_hold v h = record { hold = h; notes = v.notes; names = v.names }
+with_hold v h = record { hold = h; notes = v.notes; names = v.names; pins = v.pins }
 
 abbrev pub no_load : Workload
 no_load = record { dcs = 0; sessions = [] }
 
 abbrev pub spent : View
-spent = record { hold = plain no_load nothing Spent; notes = []; names = names [] [] }
+spent = record { hold = plain no_load nothing Spent; notes = []; names = names [] []; pins = no_pins }
 
 abbrev pub kept : List Duty → List Position → List Position → View → View
 kept ds hand placed v = with_names (with_hold v (plain v.hold.load (known v.hold.now.seen (minus number v.hold.now.duties ds)) v.hold.stage)) (names (minus place v.names.hand hand) (minus place v.names.placed placed))
@@ -142,7 +153,7 @@ abbrev pub given : List Duty → List Position → List Position → View → Vi
 given ds hand placed v = with_names (with_hold v (plain v.hold.load (known v.hold.now.seen ds) Idle)) (names hand placed)
 
 abbrev pub joined : View → View → View
-joined v w = record { hold = record { load = v.hold.load; now = both_known v.hold.now w.hold.now; left = v.hold.now; right = w.hold.now; stage = v.hold.stage }; notes = v.notes ++ w.notes; names = names (v.names.hand ++ w.names.hand) (v.names.placed ++ w.names.placed) }
+joined v w = record { hold = record { load = v.hold.load; now = both_known v.hold.now w.hold.now; left = v.hold.now; right = w.hold.now; stage = v.hold.stage }; notes = v.notes ++ w.notes; names = names (v.names.hand ++ w.names.hand) (v.names.placed ++ w.names.placed); pins = both_pins v w }
 
 abbrev pub learnt : View → View
 learnt v = with_hold v (plain v.hold.load v.hold.now v.hold.stage)

@@ -1,4 +1,6 @@
 pub mod Duties
+pub mod Pins
+pub mod Ties
 pub mod Law
 pub mod Words
 pub mod Notes
@@ -7,6 +9,7 @@ pub mod Marks
 pub mod Heads
 pub mod Start
 pub mod Takes
+pub mod Joins
 pub mod Names
 pub mod Rule
 pub mod Passes

@@ -7,12 +7,16 @@ use Rattle.abstract_log.specs.declared.event.Event.{Event}
 use Rattle.journal_lock.specs.declared.duty.Duty.{Duty}
 use Rattle.journal_lock.specs.declared.duty.Position.{Position}
 use Rattle.journal_lock.specs.declared.law.Names.{Names}
+use Rattle.journal_lock.specs.declared.law.Pins.{Pins}
+use Rattle.journal_lock.specs.declared.law.SessionPin.{SessionPin}
 use Rattle.journal_lock.specs.declared.law.Note.{Note}
 use Rattle.journal_lock.specs.declared.law.Note.TheVariants.{Met, Length}
 use Rattle.journal_lock.specs.declared.law.View.{View}
-use Rattle.journal_lock.specs.Duties.{place, datacentre, has, minus, stamped, HasDuty}
+use Rattle.journal_lock.specs.Duties.{number, place, datacentre, has, minus, stamped, HasDuty}
+use Rattle.journal_lock.specs.Ties.{IsTied}
 use Rattle.journal_lock.specs.Law.{Book, total, Sat, names}
 use Rattle.journal_lock.specs.Notes.{noted}
+use Rattle.journal_lock.specs.Joins.{TwoPairs, joins_of}
 
 -- how often a position is named
 abbrev pub named : ℕ → Names → ℕ
@@ -51,12 +55,20 @@ put ps x = names (minus place x.hand ps) (ps ++ x.placed)
 abbrev pub lengths_of : List ℕ → List Event → List Note
 lengths_of ds seen = map (λ d. Length d (has datacentre d (stamped seen))) ds
 
--- these positions are placed, and these lengths are noted
-abbrev pub amended : List Position → List ℕ → View → View
-amended ps ds v = record { hold = v.hold; notes = lengths_of ds v.hold.now.seen ++ v.notes; names = put ps v.names }
+-- what a pass notes by itself: these pairs as one, and these lengths of what it has seen
+abbrev pub own_notes : List TwoPairs → List ℕ → List Event → List Note
+own_notes twos ds seen = joins_of twos ++ lengths_of ds seen
 
-abbrev pub Amends : List Position → List ℕ → Step (Option Book) → Sat → ℕ → Sat → Type 0
-Amends ps ds st m found m' = m' ≡ (amended ps ds m.0, m.1)
+-- these pins are set, which stand before those that were
+abbrev pub pins_set : List SessionPin → Pins → Pins
+pins_set changes p = record { now = changes ++ p.now; left = changes ++ p.left; right = changes ++ p.right }
+
+-- these positions are placed, these lengths are noted, and these pairs as one, and these pins are set
+abbrev pub amended : List Position → List ℕ → List TwoPairs → List SessionPin → View → View
+amended ps ds twos changes v = record { hold = v.hold; notes = own_notes twos ds v.hold.now.seen ++ v.notes; names = put ps v.names; pins = pins_set changes v.pins }
+
+abbrev pub Amends : List Position → List ℕ → List TwoPairs → List SessionPin → Step (Option Book) → Sat → ℕ → Sat → Type 0
+Amends ps ds twos changes st m found m' = m' ≡ (amended ps ds twos changes m.0, m.1)
 
 abbrev pub Meets : Step (Option Book) → Sat → ℕ → Sat → Type 0
-Meets st m found m' = (length m.0.hold.now.seen ≤ found) × IsNamed m.0.hold.now.seen m.0.names × (m' ≡ (noted m.0 (Met found), m.1))
+Meets st m found m' = (length m.0.hold.now.seen ≤ found) × IsNamed m.0.hold.now.seen m.0.names × IsTied m.0.hold.load m.0.hold.now.duties × ((x : ℕ) → has number x m.0.hold.now.duties ≤ 1) × (m' ≡ (noted m.0 (Met found), m.1))

@@ -37,7 +37,7 @@ abbrev pub notes_of : View → List Note
 notes_of v = v.notes
 
 abbrev pub with_notes : View → List Note → View
-with_notes v xs = record { hold = v.hold; notes = xs; names = v.names }
+with_notes v xs = record { hold = v.hold; notes = xs; names = v.names; pins = v.pins }
 
 abbrev pub noted : View → Note → View
 noted v x = with_notes v (x ∷ v.notes)

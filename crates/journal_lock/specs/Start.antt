@@ -11,7 +11,7 @@ use Rattle.journal_lock.specs.declared.law.View.{View}
 use Rattle.journal_lock.specs.declared.law.Plan.{Plan}
 use Rattle.journal_lock.specs.declared.words.TheConstants.{MARKS, EPOCHS}
 use Rattle.journal_lock.specs.Duties.{all_duties}
-use Rattle.journal_lock.specs.Law.{plain, known, names}
+use Rattle.journal_lock.specs.Law.{plain, known, names, no_pins}
 use Rattle.journal_lock.specs.Words.{epoch_word, dc_of, code}
 
 -- from the first position on, so many maintainers
@@ -32,4 +32,4 @@ first_notes round d (n ∷ ns) = Told d (first_list round n) (replicate MEMBERS 
 
 -- the first pass
 abbrev pub fresh : Plan → View
-fresh plan = record { hold = plain plan.workload (known [] (all_duties plan.workload)) Idle; notes = first_notes plan.round 0 plan.maintainers; names = names [] [] }
+fresh plan = record { hold = plain plan.workload (known [] (all_duties plan.workload)) Idle; notes = first_notes plan.round 0 plan.maintainers; names = names [] []; pins = no_pins }

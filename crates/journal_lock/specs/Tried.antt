@@ -18,6 +18,7 @@ pub record IsHeld (l : Lock) (p : Ticket) (h : Hand) : Type 0 where
   pub notes : h.notes ≡ p.notes
   pub hand : h.hand ≡ p.hand
   pub placed : h.placed ≡ p.placed
+  pub pins : h.pins ≡ p.pins
   pub seen : Within p.duties p.seen h.seen
   pub run : IsRun h.workload h.seen
   pub whole : h.log ≡ h.seen

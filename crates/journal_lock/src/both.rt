@@ -48,6 +48,7 @@ pub fn begin_both<R: Threads + Wait + Sync>(
     ensures first { IfSome result (λ run. often (number (Session first)) run.events ≡ 1) }
     ensures second { IfSome result (λ run. often (number (Session second)) run.events ≡ 1) }
 {
+    let _events = lock.meet(&mut pass);
     let one = split_session(&lock, &mut pass, first);
     let two = split_session(&lock, &mut pass, second);
     let shared = &lock;

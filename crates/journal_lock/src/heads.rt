@@ -1,5 +1,5 @@
 //! Marks, epochs and heads: what passes know of the datacentres' logs without the turn.
-ghost use Rattle.std.specs.Prelude.{◌≡◌, ℕ, ◌+◌, ◌<◌, ◌≤◌, ◌∷◌, ◌↔◌, ◌++◌, length, Some, true, IsTrue};
+ghost use Rattle.std.specs.Prelude.{◌≡◌, ℕ, ◌+◌, ◌<◌, ◌≤◌, ◌∷◌, ◌↔◌, ◌++◌, length, Some, true, IsTrue, IfOk, OnErr};
 ghost use Rattle.cz_base.specs.declared.limits.TheConstants.{MEMBERS, NUMBERS_END};
 ghost use Rattle.flstore_rounds.specs.Epochs.{IsEpochList, last_epoch, with_epoch};
 ghost use Rattle.flstore_rounds.specs.Heads.{head};
@@ -17,8 +17,8 @@ use crate::lock::{JournalLock, Pass};
 use crate::row::EpochRow;
 use crate::words::{epoch_place, from_word, mark_place, to_word};
 use cz_base::limits::MEMBERS;
-use cz_base::{DcId, Lid};
-use flstore_rounds::{Epoch, head_of};
+use cz_base::{DcId, Lid, NoMemory};
+use flstore_rounds::{Epoch, Epochs, head_of};
 use std::marker::Brand;
 
 impl JournalLock {
@@ -135,6 +135,23 @@ impl JournalLock {
         self.table
             .shared
             .store::<Write>(&mut pass.seat, epoch_place(dc, at), to_word(epoch));
+    }
+
+    /// The epochs of a datacentre, no fewer than the pass was told, and just those that it knew where it has the
+    /// token's duty. The pass notes them, and that they are told with the marks that it knew.
+    pub fn load_epochs(&self, pass: &mut Pass, dc: DcId) -> Result<Epochs, NoMemory>
+        requires lock { pass.old.table ≡ self.now.table }
+        requires dc { dc < self.now.workload.dcs }
+        ensures ok { IfOk result (λ epochs. IsListed self.now dc pass.old pass.new epochs) }
+        ensures own { IfOk result (λ epochs. Has (Token dc) pass.old.duties → epochs ≡ known_list self.now.round dc pass.old.notes) }
+        ensures err { OnErr result (pass.new ≡ pass.old) }
+    {
+        let mut list = Vec::with_capacity(self.plan.maintainers.alloc(), MEMBERS)?;
+        let row = self.load_row(pass, dc);
+        for epoch in row.as_slice() {
+            list.push_reserved(*epoch);
+        }
+        Ok(Epochs::from_list(self.plan.round, list))
     }
 
     /// The head of a datacentre's log by its marks and its epochs as they are found, first those and then these. It is no

@@ -75,11 +75,25 @@ pub struct Names {
     pub placed: LinkedList<Position>,
 }
 
+/// The position that a session holds back collection from, if it has one. No value of it is made.
+pub struct SessionPin {
+    pub session: u32,
+    pub at: Option<Lid>,
+}
+
+/// The pins that a pass was told, and those that the two were told that became it. No value of it is made.
+pub struct Pins {
+    pub now: LinkedList<SessionPin>,
+    pub left: LinkedList<SessionPin>,
+    pub right: LinkedList<SessionPin>,
+}
+
 /// What a pass knows. No value of it is made.
 pub struct View {
     pub hold: Hold,
     pub notes: LinkedList<Note>,
     pub names: Names,
+    pub pins: Pins,
 }
 
 /// What a journal's lock is made for, and no step changes.
@@ -158,7 +172,7 @@ pub(crate) struct Learn<C> {
 impl<C: Planned> Play<Option<Journal>, View> for Learn<C> {
     ghost use Rattle.journal_lock.specs.Takes.{Learns};
 
-    ghost then = { Learns C.round };
+    ghost then = { Learns C.load C.round };
 }
 
 pub(crate) struct Meet;
@@ -246,15 +260,21 @@ impl Part for Brand {
     ghost placed = { [] };
 }
 
-/// What a pass changes of its names, and the datacentres of whose logs it notes the length, for contracts alone:
-/// the caller picks it at the call.
+/// What a pass changes of its names, the datacentres of whose logs it notes the length, the pairs of epochs and marks
+/// that it notes as one, and the pins that it sets, for contracts alone: the caller picks it at the call.
 pub trait Change {
     ghost use Rattle.std.specs.Prelude.{ℕ, List};
     ghost use Rattle.journal_lock.specs.declared.duty.Position.{Position};
+    ghost use Rattle.journal_lock.specs.declared.law.SessionPin.{SessionPin};
+    ghost use Rattle.journal_lock.specs.Joins.{TwoPairs};
 
     ghost placed: { List Position };
 
     ghost lengths: { List ℕ };
+
+    ghost pairs: { List TwoPairs };
+
+    ghost pins: { List SessionPin };
 }
 
 impl Change for Brand {
@@ -263,6 +283,10 @@ impl Change for Brand {
     ghost placed = { [] };
 
     ghost lengths = { [] };
+
+    ghost pairs = { [] };
+
+    ghost pins = { [] };
 }
 
 pub(crate) struct Amend<C> {
@@ -272,7 +296,7 @@ pub(crate) struct Amend<C> {
 impl<C: Change> Play<Option<Journal>, View> for Amend<C> {
     ghost use Rattle.journal_lock.specs.Names.{Amends};
 
-    ghost then = { Amends C.placed C.lengths };
+    ghost then = { Amends C.placed C.lengths C.pairs C.pins };
 }
 
 pub(crate) struct Cut<P> {

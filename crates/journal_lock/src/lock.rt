@@ -1,14 +1,17 @@
 //! The lock, its passes and its holder.
 ghost use Rattle.std.specs.Prelude.{◌≡◌, ◌≢◌, ℕ, ◌+◌, ◌<◌, ◌≤◌, ◌||◌, true, false, [], ◌∷◌, ◌++◌, length, drop, All, slice_index, IfOk, OnOk, OnErr};
-ghost use Rattle.cz_base.specs.declared.limits.TheConstants.{DATACENTRES, MEMBERS, ROUND};
+ghost use Rattle.cz_base.specs.declared.limits.TheConstants.{DATACENTRES, MEMBERS, ROUND, SESSIONS};
 ghost use Rattle.flstore_rounds.specs.Heads.{head};
 ghost use Rattle.abstract_log.specs.Runs.{IsRun, world_of};
 ghost use Rattle.abstract_log.specs.Shapes.{FitsWorkload};
 ghost use Rattle.abstract_log.specs.Steps.{CanHappen};
 ghost use Rattle.journal_lock.specs.declared.law.Note.TheVariants.{Met};
-ghost use Rattle.journal_lock.specs.Duties.{number, place, minus, stamped, duties_of, all_duties, Among, HasDuty};
+ghost use Rattle.journal_lock.specs.Ties.{IsTied};
+ghost use Rattle.journal_lock.specs.Duties.{has, number, place, minus, stamped, duties_of, all_duties, Among, HasDuty};
 ghost use Rattle.journal_lock.specs.Law.{longer, names, Within};
-ghost use Rattle.journal_lock.specs.Names.{IsNamed, NamesByDuty, lengths_of};
+ghost use Rattle.journal_lock.specs.Joins.{AreTold};
+ghost use Rattle.journal_lock.specs.Pins.{MayPin, PinsAgree, pins_of_both};
+ghost use Rattle.journal_lock.specs.Names.{IsNamed, NamesByDuty, own_notes};
 ghost use Rattle.journal_lock.specs.Heads.{settled, known_list};
 ghost use Rattle.journal_lock.specs.Start.{first_list, first_notes};
 ghost use Rattle.journal_lock.specs.Tried.{IsTried, IsHeld};
@@ -63,7 +66,7 @@ impl Model for Pass {
 
     ghost use Rattle.journal_lock.specs.Law.{IsIdle};
 
-    ghost view = { λ p. record { table = p.seat.table_id; workload = p.seat.me.0.hold.load; seen = p.seat.me.0.hold.now.seen; duties = p.seat.me.0.hold.now.duties; failed = p.failed; notes = p.seat.me.0.notes; hand = p.seat.me.0.names.hand; placed = p.seat.me.0.names.placed } };
+    ghost view = { λ p. record { table = p.seat.table_id; workload = p.seat.me.0.hold.load; seen = p.seat.me.0.hold.now.seen; duties = p.seat.me.0.hold.now.duties; failed = p.failed; notes = p.seat.me.0.notes; hand = p.seat.me.0.names.hand; placed = p.seat.me.0.names.placed; pins = p.seat.me.0.pins.now } };
 
     ghost invariant = { λ p. IsIdle p.seat.me };
 }
@@ -82,7 +85,7 @@ impl Model for Holder {
 
     ghost use Rattle.journal_lock.specs.Law.{IsOut};
 
-    ghost view = { λ h. record { table = h.seat.table_id; workload = h.seat.me.0.hold.load; seen = h.seat.me.0.hold.now.seen; duties = h.seat.me.0.hold.now.duties; failed = h.failed; notes = h.seat.me.0.notes; hand = h.seat.me.0.names.hand; placed = h.seat.me.0.names.placed; log = h.journal.log; spare = h.journal.spare } };
+    ghost view = { λ h. record { table = h.seat.table_id; workload = h.seat.me.0.hold.load; seen = h.seat.me.0.hold.now.seen; duties = h.seat.me.0.hold.now.duties; failed = h.failed; notes = h.seat.me.0.notes; hand = h.seat.me.0.names.hand; placed = h.seat.me.0.names.placed; pins = h.seat.me.0.pins.now; log = h.journal.log; spare = h.journal.spare } };
 
     ghost invariant = { λ h. IsOut h.seat.me h.journal.log };
 }
@@ -107,7 +110,7 @@ impl JournalLock {
         requires round { (1 ≤ round) × (round ≤ ROUND) }
         requires maintainers { (length maintainers.now ≡ workload.dcs) × All (λ n. (1 ≤ n) × (n ≤ MEMBERS)) maintainers.now }
         ensures lock { IfOk result (λ t. (t.0.workload ≡ workload) × (t.0.round ≡ round) × (t.1.table ≡ t.0.table) × (t.1.workload ≡ workload)) }
-        ensures pass { IfOk result (λ t. (t.1.seen ≡ []) × (t.1.duties ≡ all_duties workload) × (t.1.failed ≡ false) × (t.1.notes ≡ first_notes round 0 maintainers.now) × (t.1.hand ≡ []) × (t.1.placed ≡ [])) }
+        ensures pass { IfOk result (λ t. (t.1.seen ≡ []) × (t.1.duties ≡ all_duties workload) × (t.1.failed ≡ false) × (t.1.notes ≡ first_notes round 0 maintainers.now) × (t.1.hand ≡ []) × (t.1.placed ≡ []) × (t.1.pins ≡ [])) }
         ensures epochs { IfOk result (λ t. (d : ℕ) → d < workload.dcs → known_list round d t.1.notes ≡ first_list round (slice_index maintainers.now d)) }
     {
         let Ok(mut slots) = Vec::with_capacity(alloc, 1) else {
@@ -189,12 +192,13 @@ impl JournalLock {
     }
 
     /// A second pass, which has seen the same and gets what `P` names; the first keeps the rest. Who names
-    /// positions keeps a duty.
+    /// positions keeps a duty, a token stays with a queue, and a draft with its session or a stage of its home.
     pub fn split<P: Part>(&self, pass: &mut Pass) -> Pass
         requires lock { pass.old.table ≡ self.now.table }
         requires part { Among number P.duties pass.old.duties × Among place P.hand pass.old.hand × Among place P.placed pass.old.placed }
         requires left { NamesByDuty (minus number pass.old.duties P.duties) (names (minus place pass.old.hand P.hand) (minus place pass.old.placed P.placed)) }
         requires right { NamesByDuty P.duties (names P.hand P.placed) }
+        requires tied { IsTied pass.old.workload (minus number pass.old.duties P.duties) × IsTied pass.old.workload P.duties }
         ensures kept { pass.new ≡ record pass.old { duties = minus number pass.old.duties P.duties; hand = minus place pass.old.hand P.hand; placed = minus place pass.old.placed P.placed } }
         ensures given { result ≡ record pass.old { duties = P.duties; hand = P.hand; placed = P.placed } }
     {
@@ -207,13 +211,15 @@ impl JournalLock {
 
     /// The first pass takes in the second, and has seen the longer of both. What it has seen has no event of the
     /// duties of either that this one had not seen. It names no position twice, and none that is not stamped there, and
-    /// the heads that it was told are no lower than those of either.
+    /// the heads that it was told are no lower than those of either. Where the duties of both know the pin of a session,
+    /// they have the same.
     pub fn join(&self, pass: &mut Pass, other: Pass)
         requires lock { (pass.old.table ≡ self.now.table) × (other.table ≡ self.now.table) }
-        ensures all { pass.new ≡ record pass.old { seen = longer pass.old.seen other.seen; duties = pass.old.duties ++ other.duties; failed = pass.old.failed || other.failed; notes = pass.old.notes ++ other.notes; hand = pass.old.hand ++ other.hand; placed = pass.old.placed ++ other.placed } }
+        ensures all { pass.new ≡ record pass.old { seen = longer pass.old.seen other.seen; duties = pass.old.duties ++ other.duties; failed = pass.old.failed || other.failed; notes = pass.old.notes ++ other.notes; hand = pass.old.hand ++ other.hand; placed = pass.old.placed ++ other.placed; pins = pins_of_both pass.old.workload pass.old.duties pass.old.pins other.pins SESSIONS } }
         ensures one { Within pass.old.duties pass.old.seen pass.new.seen }
         ensures two { Within other.duties other.seen pass.new.seen }
         ensures named { IsNamed pass.new.seen (names pass.new.hand pass.new.placed) }
+        ensures pins { PinsAgree self.now.workload (pass.old.duties, pass.old.pins) (other.duties, other.pins) }
         ensures heads { (d : ℕ) → d < DATACENTRES → (head (settled self.now.round d pass.old.notes) ≤ head (settled self.now.round d pass.new.notes)) × (head (settled self.now.round d other.notes) ≤ head (settled self.now.round d pass.new.notes)) }
     {
         self.join_both::<Brand>(pass, other);
@@ -221,11 +227,12 @@ impl JournalLock {
 
     fn join_both<C: Planned>(&self, pass: &mut Pass, other: Pass)
         requires lock { (pass.old.table ≡ self.now.table) × (other.table ≡ self.now.table) }
-        requires plan { C.round ≡ self.now.round }
-        ensures all { pass.new ≡ record pass.old { seen = longer pass.old.seen other.seen; duties = pass.old.duties ++ other.duties; failed = pass.old.failed || other.failed; notes = pass.old.notes ++ other.notes; hand = pass.old.hand ++ other.hand; placed = pass.old.placed ++ other.placed } }
+        requires plan { (C.load ≡ self.now.workload) × (C.round ≡ self.now.round) }
+        ensures all { pass.new ≡ record pass.old { seen = longer pass.old.seen other.seen; duties = pass.old.duties ++ other.duties; failed = pass.old.failed || other.failed; notes = pass.old.notes ++ other.notes; hand = pass.old.hand ++ other.hand; placed = pass.old.placed ++ other.placed; pins = pins_of_both pass.old.workload pass.old.duties pass.old.pins other.pins SESSIONS } }
         ensures one { Within pass.old.duties pass.old.seen pass.new.seen }
         ensures two { Within other.duties other.seen pass.new.seen }
         ensures named { IsNamed pass.new.seen (names pass.new.hand pass.new.placed) }
+        ensures pins { PinsAgree self.now.workload (pass.old.duties, pass.old.pins) (other.duties, other.pins) }
         ensures heads { (d : ℕ) → d < DATACENTRES → (head (settled self.now.round d pass.old.notes) ≤ head (settled self.now.round d pass.new.notes)) × (head (settled self.now.round d other.notes) ≤ head (settled self.now.round d pass.new.notes)) }
     {
         let Pass { seat, failed } = other;
@@ -240,16 +247,21 @@ impl JournalLock {
         ensures count { length pass.old.seen ≤ result }
         ensures noted { pass.new ≡ record pass.old { notes = Met result ∷ pass.old.notes } }
         ensures named { IsNamed pass.old.seen (names pass.old.hand pass.old.placed) }
+        ensures tied { IsTied pass.old.workload pass.old.duties }
+        ensures once { (x : ℕ) → has number x pass.old.duties ≤ 1 }
     {
         self.table.shared.load::<Meet>(&mut pass.seat, COUNT)
     }
 
     /// The positions that `C` names were at hand and are placed, and the pass notes how long the logs of the
-    /// datacentres that `C` names are in what it has seen.
+    /// datacentres that `C` names are in what it has seen, and of each two pairs that `C` names, which it was told, what
+    /// both say together. Who has a session's duty and that of its datacentre's table sets its pin.
     pub fn amend<C: Change>(&self, pass: &mut Pass)
         requires lock { pass.old.table ≡ self.now.table }
         requires hand { Among place C.placed pass.old.hand }
-        ensures { pass.new ≡ record pass.old { hand = minus place pass.old.hand C.placed; placed = C.placed ++ pass.old.placed; notes = lengths_of C.lengths pass.old.seen ++ pass.old.notes } }
+        requires told { AreTold C.pairs pass.old.notes }
+        requires pins { MayPin pass.old.workload pass.old.duties C.pins }
+        ensures { pass.new ≡ record pass.old { hand = minus place pass.old.hand C.placed; placed = C.placed ++ pass.old.placed; notes = own_notes C.pairs C.lengths pass.old.seen ++ pass.old.notes; pins = C.pins ++ pass.old.pins } }
     {
         self.table.shared.load::<Amend<C>>(&mut pass.seat, COUNT);
     }
@@ -315,7 +327,7 @@ impl Holder {
     /// The journal is home again, and the pass has seen it. The positions of its events are at hand.
     pub fn give(self, lock: &JournalLock) -> Pass
         requires { self.table ≡ lock.now.table }
-        ensures kept { (result.table ≡ self.table) × (result.workload ≡ self.workload) × (result.duties ≡ self.duties) × (result.failed ≡ self.failed) × (result.notes ≡ self.notes) × (result.placed ≡ self.placed) }
+        ensures kept { (result.table ≡ self.table) × (result.workload ≡ self.workload) × (result.duties ≡ self.duties) × (result.failed ≡ self.failed) × (result.notes ≡ self.notes) × (result.placed ≡ self.placed) × (result.pins ≡ self.pins) }
         ensures seen { result.seen ≡ self.log }
         ensures hand { result.hand ≡ stamped (drop (length self.seen) self.log) ++ self.hand }
     {

@@ -7,7 +7,7 @@ ghost use Rattle.journal_lock.specs.Duties.{number, often, Has};
 use abstract_log::Event;
 use causal_deps::{BoxedCounts, Counts};
 use cz_base::DcId;
-use journal_lock::{Duty, JournalLock, Pass, split_duty};
+use journal_lock::{JournalLock, Pass, split_table};
 use std::alloc::Global;
 use std::sync::Wait;
 use std::thread::{Threads, join};
@@ -128,10 +128,11 @@ pub fn learn_four<R: Threads + Wait + Sync>(
     requires none { (pass.old.hand ≡ []) × (pass.old.placed ≡ []) }
     ensures { pass.new.table ≡ pass.old.table }
 {
-    let one = split_duty(lock, pass, Duty::Table { dc: first });
-    let two = split_duty(lock, pass, Duty::Table { dc: second });
-    let three = split_duty(lock, pass, Duty::Table { dc: third });
-    let four = split_duty(lock, pass, Duty::Table { dc: fourth });
+    let _events = lock.meet(pass);
+    let one = split_table(lock, pass, first);
+    let two = split_table(lock, pass, second);
+    let three = split_table(lock, pass, third);
+    let four = split_table(lock, pass, fourth);
     let (left, right) = join(
         rt,
         || -> (Pass, Pass)

@@ -14,12 +14,14 @@ fn a_lock_begins_with_one_epoch_and_nothing_placed(rt: HostRuntime) -> Result<()
     };
     let (lock, mut pass) = JournalLock::new(alloc, workload, 3, &[2, 5])?;
     let second = DcId::new(1).ok_or("the second datacentre")?;
+    let epochs = lock.load_epochs(&mut pass, second)?;
+    assert_eq!(rt; epochs.list().len(), 1);
     assert!(rt;
-        lock.load_epoch(&mut pass, second, 0)
-            == Some(Epoch {
+        epochs.list()[0]
+            == Epoch {
                 start: 1,
                 members: 5
-            })
+            }
     );
     assert!(rt;
         lock.load_epoch(&mut pass, DcId::FIRST, 0)

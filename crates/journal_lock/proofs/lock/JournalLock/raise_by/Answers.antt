@@ -36,4 +36,5 @@ returns g c =
       notes = (ap (λ m. m.0.notes) now ∙ (λ j. risen_notes (c.requires.plan j) c.args.dc c.args.member c.args.mark (ap (λ t. t.notes) was j))) i;
       hand = (ap (λ m. m.0.names.hand) now ∙ ap (λ t. t.hand) was) i;
       placed = (ap (λ m. m.0.names.placed) now ∙ ap (λ t. t.placed) was) i;
+      pins = (ap (λ m. m.0.pins.now) now ∙ ap (λ t. t.pins) was) i;
     }

@@ -39,6 +39,7 @@ returns g c =
       notes = noted ∙ ap (λ t. t.notes) c.pass.view_is;
       hand = ap (λ (x : View). x.names.hand) v ∙ ap (λ t. t.hand) c.pass.view_is;
       placed = ap (λ (x : View). x.names.placed) v ∙ ap (λ t. t.placed) c.pass.view_is;
+      pins = ap (λ (x : View). x.pins.now) v ∙ ap (λ t. t.pins) c.pass.view_is;
       seen = subst (λ (z : List Duty × List Event × List Event). Within z.0 z.1 z.2) (λ i. (ap (λ t. t.duties) c.pass.view_is i, ap (λ t. t.seen) c.pass.view_is i, sym seen i)) took.3;
       run = subst (λ (z : Workload × List Event). IsRun z.0 z.1) (λ i. (sym (load ∙ took.1) i, sym seen i)) took.2;
       whole = sym (seen ∙ ap (λ (b : Book). b.log) same);

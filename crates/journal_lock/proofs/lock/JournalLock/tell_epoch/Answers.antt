@@ -38,6 +38,7 @@ returns-clause-noted g c =
       notes = (ap (λ m. m.0.notes) now ∙ (λ j. tell_notes (c.requires.plan.1 j) (word j) (has datacentre (of j) (stamped (ap (λ t. t.seen) was j))) (sym c.from_word.ensures.code j) (ap (λ t. t.notes) was j))) i;
       hand = (ap (λ m. m.0.names.hand) now ∙ ap (λ t. t.hand) was) i;
       placed = (ap (λ m. m.0.names.placed) now ∙ ap (λ t. t.placed) was) i;
+      pins = (ap (λ m. m.0.pins.now) now ∙ ap (λ t. t.pins) was) i;
     }
 
 pub returns-clause-told : goal.returns-clause-told
